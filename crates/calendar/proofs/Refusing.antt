@@ -48,7 +48,7 @@ pub unordered-step :
 unordered-step ss i p low d o h at e =
     ap (first-unordered (i + 1) low) (drop-step ss i d h)
     ∙ ap (λ q. orOther q (first-unordered (suc (i + 1)) (suc (getD ss i d .end)) (drop (i + 1) ss)))
-      (sym (e ∙ ap (λ n. shift-unordered n low (getD ss i d)) at))
+    (sym (e ∙ ap (λ n. shift-unordered n low (getD ss i d)) at))
     ∙ ap (λ n. orOther o (first-unordered n (suc (getD ss i d .end)) (drop (i + 1) ss))) (sym (add-one (i + 1)))
     ∙ ap (λ n. orOther o (first-unordered (i + 1 + 1) n (drop (i + 1) ss))) (sym (add-one (getD ss i d .end)))
 
@@ -89,8 +89,8 @@ ordered-by p q low (s ∷ ss) h k =
     let a = and-parts (leb low (s .begin)) (ltb (s .begin) (s .end)) (unordered-none q low s (or-first (shift-unordered q low s) _ k)) in
     and-from _ _ (a .0)
     (and-from _ _ (a .1)
-        (and-from _ _ (le-leb (s .end) 10080 (shift-inside p s (or-first (shift-past p s) _ h)))
-            (ordered-by (suc p) (suc q) (suc (s .end)) ss (or-second (shift-past p s) _ h) (or-second (shift-unordered q low s) _ k))))
+    (and-from _ _ (le-leb (s .end) 10080 (shift-inside p s (or-first (shift-past p s) _ h)))
+    (ordered-by (suc p) (suc q) (suc (s .end)) ss (or-second (shift-past p s) _ h) (or-second (shift-unordered q low s) _ k))))
 
 pub lawful-ordered : (ss : List Shift) → None ≡ first-past 1 ss → None ≡ first-unordered 1 0 ss → ordered 0 ss ≡ true
 lawful-ordered ss h k = ordered-by 1 1 0 ss (sym h) (sym k)

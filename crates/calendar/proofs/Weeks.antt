@@ -65,12 +65,12 @@ within-here :
 within-here low s ss r o h y =
     let e = reached-here s ss r y in
     record {
-        above = omega (arith, o .0);
-        below = omega (arith, o .1, o .2);
-        up = λ t u.
-            elim (decLe t (suc (s .end)))
-            [ yes a ↦ omega (arith, opened-none (suc (s .end)) t ss (o .3) a, o .1) | no a ↦ omega (arith, o .1) ];
-        down = λ t u. omega (arith, o .1)
+      above = omega (arith, o .0);
+      below = omega (arith, o .1, o .2);
+      up = λ t u.
+          elim (decLe t (suc (s .end)))
+          [ yes a ↦ omega (arith, opened-none (suc (s .end)) t ss (o .3) a, o .1) | no a ↦ omega (arith, o .1) ];
+      down = λ t u. omega (arith, o .1);
     }
 
 within-past :
@@ -79,20 +79,21 @@ within-past :
 within-past low s ss r o y w =
     let e = reached-past s ss r y in
     record {
-        above = omega (arith, w .above, o .0, o .1);
-        below = omega (arith, w .below);
-        up = λ t u.
-            elim (decLe t (suc (s .end)))
-            [ yes a ↦ absurd (omega (arith, opened-none (suc (s .end)) t ss (o .3) a, o .1)) | no a ↦ omega (arith, w .up t (omega arith)) ];
-        down = λ t u. omega (arith, w .down t (omega arith), w .above, o .1)
+      above = omega (arith, w .above, o .0, o .1);
+      below = omega (arith, w .below);
+      up = λ t u.
+          elim (decLe t (suc (s .end)))
+          [ yes a ↦ absurd (omega (arith, opened-none (suc (s .end)) t ss (o .3) a, o .1)) | no a ↦ omega (arith, w .up t (omega arith)) ];
+      down = λ t u. omega (arith, w .down t (omega arith), w .above, o .1);
     }
 
 pub within : (low : ℕ) (ss : List Shift) (r : ℕ) → Ordered low ss → 1 ≤ r → r ≤ total ss → Within low ss r
 within low [] r o h k = absurd (omega arith)
 within low (s ∷ ss) r o h k =
     elim (decLe r (s .end - s .begin)) [
-        yes y ↦ within-here low s ss r o h y
-        | no n ↦ within-past low s ss r o (omega arith) (within (suc (s .end)) ss (r - (s .end - s .begin)) (o .3) (omega arith) (omega arith)) ]
+      | yes y ↦ within-here low s ss r o h y
+      | no n ↦ within-past low s ss r o (omega arith) (within (suc (s .end)) ss (r - (s .end - s .begin)) (o .3) (omega arith) (omega arith))
+    ]
 
 -- the open minutes before t: those of the whole weeks and of the last one
 abbrev worked : List Shift → ℕ → ℕ
@@ -113,12 +114,14 @@ galois-up ss (suc y) t o p h =
     let w : Within 0 ss (suc (y % n)) = within 0 ss (suc (y % n)) o (omega arith) m in
     let l : opened ss (t % 10080) ≤ n = opened-le-total (t % 10080) ss in
     elim (decLe u q) [
-        yes a ↦ elim (decLe q u) [
-            yes b ↦ let e : q ≡ u = omega arith in
-                let f : q * n ≡ u * n = ap (λ z. z * n) e in
-                let k : reached ss (suc (y % n)) ≤ t % 10080 = w .up (t % 10080) (omega arith) in omega arith
-            | no b ↦ absurd (omega (arith, more-weeks u q n (omega arith))) ]
-        | no a ↦ omega (arith, w .below) ]
+      | yes a ↦ elim (decLe q u) [
+        | yes b ↦ let e : q ≡ u = omega arith in
+            let f : q * n ≡ u * n = ap (λ z. z * n) e in
+            let k : reached ss (suc (y % n)) ≤ t % 10080 = w .up (t % 10080) (omega arith) in omega arith
+        | no b ↦ absurd (omega (arith, more-weeks u q n (omega arith)))
+      ]
+      | no a ↦ omega (arith, w .below)
+    ]
 
 galois-down : (ss : List Shift) (x t : ℕ) → Ordered 0 ss → 1 ≤ total ss → time-by ss x ≤ t → x ≤ worked ss t
 galois-down ss zero t o p h = omega arith
@@ -130,12 +133,14 @@ galois-down ss (suc y) t o p h =
     let d : q * n + y % n ≡ y = div-add-mod' y n in
     let w : Within 0 ss (suc (y % n)) = within 0 ss (suc (y % n)) o (omega arith) m in
     elim (decLe u q) [
-        yes a ↦ elim (decLe q u) [
-            yes b ↦ let e : q ≡ u = omega arith in
-                let f : q * n ≡ u * n = ap (λ z. z * n) e in
-                let k : suc (y % n) ≤ opened ss (t % 10080) = w .down (t % 10080) (omega arith) in omega arith
-            | no b ↦ absurd (omega (arith, w .above)) ]
-        | no a ↦ omega (arith, more-weeks q u n (omega arith)) ]
+      | yes a ↦ elim (decLe q u) [
+        | yes b ↦ let e : q ≡ u = omega arith in
+            let f : q * n ≡ u * n = ap (λ z. z * n) e in
+            let k : suc (y % n) ≤ opened ss (t % 10080) = w .down (t % 10080) (omega arith) in omega arith
+        | no b ↦ absurd (omega (arith, w .above))
+      ]
+      | no a ↦ omega (arith, more-weeks q u n (omega arith))
+    ]
 
 pub worked-le : (ss : List Shift) (t : ℕ) → Ordered 0 ss → worked ss t ≤ t
 worked-le ss t o =
@@ -201,8 +206,10 @@ opened-next low (s ∷ ss) r o = go (decLe (s .begin) r) (decLe (s .end) r) (ope
   where
     here : Bool
     here = leb (s .begin) r && ltb r (s .end)
+
     adds : (b : Bool) → b ≡ false → _≡_ {A = ℕ} (cond (b || open-at ss r) 1 0) (cond (open-at ss r) 1 0)
     adds b e = ap (λ x. cond (x || open-at ss r) 1 0) e
+
     go :
         Dec (s .begin ≤ r) → Dec (s .end ≤ r) → opened ss (suc r) ≡ opened ss r + cond (open-at ss r) 1 0
         → opened (s ∷ ss) (suc r) ≡ opened (s ∷ ss) r + cond (open-at (s ∷ ss) r) 1 0
@@ -221,6 +228,7 @@ worked-next ss t o = go (decLe 10079 (t % 10080))
   where
     step : opened ss (suc (t % 10080)) ≡ opened ss (t % 10080) + cond (open-at ss (t % 10080)) 1 0
     step = opened-next 0 ss (t % 10080) o
+
     go : Dec (10079 ≤ t % 10080) → worked ss (suc t) ≡ worked ss t + cond (open-at ss (t % 10080)) 1 0
     go (yes h) =
         let d : suc t / 10080 ≡ t / 10080 + 1 = omega arith in
@@ -242,16 +250,19 @@ worked-counts ss (suc t) o = worked-next ss t o ∙ ap (λ n. n + cond (open-at 
 pub adjoint : (ss : List Shift) → Ordered 0 ss → 1 ≤ total ss → Adjoint ss
 adjoint ss o p =
     record {
-        up = λ x t h. galois-up ss x t o p (omega (arith, worked-counts ss t o));
-        down = λ x t h. let k = galois-down ss x t o p h in omega (arith, worked-counts ss t o)
+      up = λ x t h. galois-up ss x t o p (omega (arith, worked-counts ss t o));
+      down = λ x t h. let k = galois-down ss x t o p h in omega (arith, worked-counts ss t o);
     }
 
 -- the first shift is open where it begins
 first-open : (ss : List Shift) → Ordered 0 ss → 1 ≤ total ss → (m : ℕ) × (m < 10080) × (open-at ss m ≡ true)
 first-open [] o p = absurd (omega arith)
-first-open (s ∷ ss) o p =
-    (s .begin, omega (arith, o .1, o .2), or-left _ (open-at ss (s .begin))
-        (and-from _ _ (le-leb (s .begin) (s .begin) (omega arith)) (lt-ltb (s .begin) (s .end) (o .1))))
+first-open (s ∷ ss) o p = (
+  s .begin,
+  omega (arith, o .1, o .2),
+  or-left _ (open-at ss (s .begin))
+      (and-from _ _ (le-leb (s .begin) (s .begin) (omega arith)) (lt-ltb (s .begin) (s .end) (o .1))),
+)
 
 pub opens : (ss : List Shift) → Ordered 0 ss → 1 ≤ total ss → Opens ss
 opens ss o p = record { some = first-open ss o p; at-most = λ t. omega (arith, worked-counts ss t o, worked-le ss t o) }

@@ -15,4 +15,4 @@ abbrev pub early-week : List Shift
 early-week =
     record { begin = 360; end = 840 }
     ∷ (record { begin = 1800; end = 2280 }
-        ∷ (record { begin = 3240; end = 3720 } ∷ (record { begin = 4680; end = 5160 } ∷ (record { begin = 6120; end = 6600 } ∷ []))))
+    ∷ (record { begin = 3240; end = 3720 } ∷ (record { begin = 4680; end = 5160 } ∷ (record { begin = 6120; end = 6600 } ∷ []))))

@@ -17,9 +17,16 @@ pub enum Piece {
 #[derive(Clone, Copy, PartialEq, Eq, Debug)]
 pub enum SettingFault {
     // The setting at this position of the piece is off its range. Of a week each shift is a setting.
-    OffRange { piece: Piece, position: u32, value: u32 },
+    OffRange {
+        piece: Piece,
+        position: u32,
+        value: u32,
+    },
     // The shift at this position does not begin below its end, or not after the end of the shift before.
-    ShiftOrder { position: u32, begin: u32 },
+    ShiftOrder {
+        position: u32,
+        begin: u32,
+    },
 }
 
 impl SettingFault {
@@ -65,11 +72,21 @@ impl SettingFault {
 }
 
 // Lets a setting pass that lies from `low` to `high`.
-pub fn on_range(piece: Piece, position: u32, value: u32, low: u32, high: u32) -> Result<(), SettingFault>
+pub fn on_range(
+    piece: Piece,
+    position: u32,
+    value: u32,
+    low: u32,
+    high: u32,
+) -> Result<(), SettingFault>
     ensures { λ r. ⌜ r ≡ cond (off low high value) (Err (OffRange piece position value)) (Ok tt) ⌝ }
 {
     if value < low || value > high {
-        return Err(SettingFault::OffRange { piece, position, value });
+        return Err(SettingFault::OffRange {
+            piece,
+            position,
+            value,
+        });
     }
     Ok(())
 }

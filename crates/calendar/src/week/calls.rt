@@ -28,10 +28,18 @@ fn count_in_range(count: usize) -> Result<(), SettingFault>
     ensures { λ r. ⌜ mapped told (errPart r) ≡ count-off count ⌝ }
 {
     if count == 0 {
-        return Err(SettingFault::OffRange { piece: Piece::Week, position: 1, value: 0 });
+        return Err(SettingFault::OffRange {
+            piece: Piece::Week,
+            position: 1,
+            value: 0,
+        });
     }
     if count > 16 {
-        return Err(SettingFault::OffRange { piece: Piece::Week, position: 17, value: 17 });
+        return Err(SettingFault::OffRange {
+            piece: Piece::Week,
+            position: 17,
+            value: 17,
+        });
     }
     Ok(())
 }
@@ -63,7 +71,10 @@ fn shift_in_order(position: u32, low: u32, shift: Shift) -> Result<(), SettingFa
     ensures { λ r. ⌜ mapped told (errPart r) ≡ shift-unordered position low shift ⌝ }
 {
     if shift.begin < low || shift.begin >= shift.end {
-        return Err(SettingFault::ShiftOrder { position, begin: shift.begin });
+        return Err(SettingFault::ShiftOrder {
+            position,
+            begin: shift.begin,
+        });
     }
     Ok(())
 }
@@ -123,7 +134,11 @@ impl Week {
         all_in_order(shifts)?;
         let mut table = [CLOSED; 16];
         table[..shifts.len()].copy_from_slice(shifts);
-        Ok(Week { table, count: shifts.len(), minutes: opened_before(shifts, WEEK) })
+        Ok(Week {
+            table,
+            count: shifts.len(),
+            minutes: opened_before(shifts, WEEK),
+        })
     }
 
     // The house week that is always open.
@@ -131,8 +146,15 @@ impl Week {
         ensures { λ r. ⌜ shifts-of r ≡ all-week ⌝ }
     {
         let mut table = [CLOSED; 16];
-        table[0] = Shift { begin: 0, end: WEEK };
-        Week { table, count: 1, minutes: WEEK }
+        table[0] = Shift {
+            begin: 0,
+            end: WEEK,
+        };
+        Week {
+            table,
+            count: 1,
+            minutes: WEEK,
+        }
     }
 
     // The house week of an early shift on five days.
@@ -140,12 +162,31 @@ impl Week {
         ensures { λ r. ⌜ shifts-of r ≡ early-week ⌝ }
     {
         let mut table = [CLOSED; 16];
-        table[0] = Shift { begin: 360, end: 840 };
-        table[1] = Shift { begin: 1800, end: 2280 };
-        table[2] = Shift { begin: 3240, end: 3720 };
-        table[3] = Shift { begin: 4680, end: 5160 };
-        table[4] = Shift { begin: 6120, end: 6600 };
-        Week { table, count: 5, minutes: 2400 }
+        table[0] = Shift {
+            begin: 360,
+            end: 840,
+        };
+        table[1] = Shift {
+            begin: 1800,
+            end: 2280,
+        };
+        table[2] = Shift {
+            begin: 3240,
+            end: 3720,
+        };
+        table[3] = Shift {
+            begin: 4680,
+            end: 5160,
+        };
+        table[4] = Shift {
+            begin: 6120,
+            end: 6600,
+        };
+        Week {
+            table,
+            count: 5,
+            minutes: 2400,
+        }
     }
 
     // How many minutes of one week are open: at least one, and never more than there are.
@@ -173,7 +214,11 @@ impl Week {
         }
         let weeks = (work - 1) / self.minutes;
         let minute = minute_by(&self.table[..self.count], (work - 1) % self.minutes + 1);
-        if weeks >= 100 { END } else { (weeks * WEEK + minute).min(END) }
+        if weeks >= 100 {
+            END
+        } else {
+            (weeks * WEEK + minute).min(END)
+        }
     }
 }
 

@@ -21,6 +21,7 @@ ghost-result c =
 
 pub returns : need.returns
 returns c =
-    let ss = c .args .shifts .now in
-    (refused-order ss None (c .in-Continue-count-in-range .ensures tt) (c .in-Continue-all-in-week .ensures tt) (c .in-Continue-all-in-order .ensures tt),
-        table-holds ss (c .copy-from-slice .last .self) _ (c .copy-from-slice .ensures .after))
+    let ss = c .args .shifts .now in (
+      refused-order ss None (c .in-Continue-count-in-range .ensures tt) (c .in-Continue-all-in-week .ensures tt) (c .in-Continue-all-in-order .ensures tt),
+      table-holds ss (c .copy-from-slice .last .self) _ (c .copy-from-slice .ensures .after),
+    )

@@ -25,10 +25,12 @@ returns-then-left-length c =
 
 pub loop-shift-again : need.loop-shift-again
 loop-shift-again c =
-    let e = total-step (c .args .shifts .now) (c .loop-shift .shift-index) none (c .loop-shift-test .taken) in
-    (omega arith, omega arith,
-        sym (reached-step-past (c .args .shifts .now) (c .loop-shift .shift-index) (c .loop-shift .left) none (c .loop-shift-test .taken) (c .if-left-length .left))
-        ∙ c .loop-shift .inv .2)
+    let e = total-step (c .args .shifts .now) (c .loop-shift .shift-index) none (c .loop-shift-test .taken) in (
+      omega arith,
+      omega arith,
+      sym (reached-step-past (c .args .shifts .now) (c .loop-shift .shift-index) (c .loop-shift .left) none (c .loop-shift-test .taken) (c .if-left-length .left))
+          ∙ c .loop-shift .inv .2,
+    )
 
 pub returns : need.returns
 returns c =

@@ -1,0 +1,3 @@
+pub mod Layering
+pub mod Serves
+pub mod Turns

@@ -1,0 +1,8 @@
+// Stations: each is loaded with the arrival minutes of its parts and answers their departure minutes.
+pub mod layers;
+pub mod loading;
+pub mod machines;
+pub mod moves;
+pub mod ovens;
+mod places;
+pub mod weekly;
