@@ -17,22 +17,22 @@ use Rattle.stations.specs.Serving.{Pace, start, served, machine, oven, round-u
 use Rattle.stations.specs.ServingLaw.{LeavesInTurn, RoundedUp, Starts, StartsInTurn}
 
 -- the starts, not yet cut
-abbrev begun : Pace → List ℕ → Rule
-begun w free [] = []
-begun w free (a ∷ arrivals) = start w free a ∷ begun w (cut (start w free a + w .turn) ∷ free) arrivals
+abbrev begun : ℕ → Pace → List ℕ → Rule
+begun k w free [] = []
+begun k w free (a ∷ arrivals) = start k w free a ∷ begun k w (cut (start k w free a + w .turn) ∷ free) arrivals
 
 -- when the places are free again
-abbrev frees : Pace → List ℕ → Rule
-frees w free arrivals = map (λ s. cut (s + w .turn)) (begun w free arrivals)
+abbrev frees : ℕ → Pace → List ℕ → Rule
+frees k w free arrivals = map (λ s. cut (s + w .turn)) (begun k w free arrivals)
 
-begun-length : (w : Pace) (free arrivals : List ℕ) → length (begun w free arrivals) ≡ length arrivals
-begun-length w free [] = refl
-begun-length w free (a ∷ arrivals) = ap suc (begun-length w (cut (start w free a + w .turn) ∷ free) arrivals)
+begun-length : (k : ℕ) (w : Pace) (free arrivals : List ℕ) → length (begun k w free arrivals) ≡ length arrivals
+begun-length k w free [] = refl
+begun-length k w free (a ∷ arrivals) = ap suc (begun-length k w (cut (start k w free a + w .turn) ∷ free) arrivals)
 
-served-begun : (w : Pace) (free arrivals : List ℕ) → served w free arrivals ≡ map (λ s. cut (s + w .stay)) (begun w free arrivals)
-served-begun w free [] = refl
-served-begun w free (a ∷ arrivals) =
-    ap (λ (l : List ℕ). cut (start w free a + w .stay) ∷ l) (served-begun w (cut (start w free a + w .turn) ∷ free) arrivals)
+served-begun : (k : ℕ) (w : Pace) (free arrivals : List ℕ) → served k w free arrivals ≡ map (λ s. cut (s + w .stay)) (begun k w free arrivals)
+served-begun k w free [] = refl
+served-begun k w free (a ∷ arrivals) =
+    ap (λ (l : List ℕ). cut (start k w free a + w .stay) ∷ l) (served-begun k w (cut (start k w free a + w .turn) ∷ free) arrivals)
 
 -- when the place of the part at i is free: by the part k before, of those since, fs, or of those at the beginning
 abbrev prior : ℕ → List ℕ → List ℕ → ℕ → ℕ
@@ -65,17 +65,17 @@ prior-more k f free fs i = go (decLe k i) (decLe k (suc i))
         ∙ sym (prior-first k free (f ∷ fs) (suc i) (omega arith))
 
 begun-at :
-    (w : Pace) (free arrivals : List ℕ) (i : ℕ) → 1 ≤ w .places → i < length arrivals
-    → getD (begun w free arrivals) i 0 ≡ max (w .from (getD arrivals i 0)) (prior (w .places) free (frees w free arrivals) i)
-begun-at w free [] i h l = absurd (omega arith)
-begun-at w free (a ∷ arrivals) zero h l =
-    let e : w .places - 1 ≡ w .places - 1 - 0 = omega arith in
+    (k : ℕ) (w : Pace) (free arrivals : List ℕ) (i : ℕ) → 1 ≤ k → i < length arrivals
+    → getD (begun k w free arrivals) i 0 ≡ max (w .from (getD arrivals i 0)) (prior (k) free (frees k w free arrivals) i)
+begun-at k w free [] i h l = absurd (omega arith)
+begun-at k w free (a ∷ arrivals) zero h l =
+    let e : k - 1 ≡ k - 1 - 0 = omega arith in
     ap (max (w .from a))
-    (ap (λ n. getD free n 0) e ∙ sym (prior-first (w .places) free (frees w free (a ∷ arrivals)) zero (omega arith)))
-begun-at w free (a ∷ arrivals) (suc i) h l =
-    let f : ℕ = cut (start w free a + w .turn) in
-    begun-at w (f ∷ free) arrivals i h (omega arith)
-    ∙ ap (max (w .from (getD arrivals i 0))) (prior-more (w .places) f free (frees w (f ∷ free) arrivals) i)
+    (ap (λ n. getD free n 0) e ∙ sym (prior-first (k) free (frees k w free (a ∷ arrivals)) zero (omega arith)))
+begun-at k w free (a ∷ arrivals) (suc i) h l =
+    let f : ℕ = cut (start k w free a + w .turn) in
+    begun-at k w (f ∷ free) arrivals i h (omega arith)
+    ∙ ap (max (w .from (getD arrivals i 0))) (prior-more (k) f free (frees k w (f ∷ free) arrivals) i)
 
 -- from the beginning there is no part before
 prior-at : (k : ℕ) (fs : List ℕ) (i : ℕ) → prior k [] fs i ≡ at fs (suc i - k)
@@ -86,19 +86,19 @@ prior-at k fs i = go (decLe k i)
     go (no n) = let e : 0 ≡ suc i - k = omega arith in prior-first k [] fs i (omega arith) ∙ ap (at fs) e
 
 -- what is worked out from a start stands in its place
-from-start : (f : ℕ → ℕ) (w : Pace) (arrivals : List ℕ) (i : ℕ) → i < length arrivals → getD (map f (begun w [] arrivals)) i 0 ≡ f (getD (begun w [] arrivals) i 0)
-from-start f w arrivals i h = getD-map f (begun w [] arrivals) i 0 0 (omega (arith, begun-length w [] arrivals))
+from-start : (f : ℕ → ℕ) (k : ℕ) (w : Pace) (arrivals : List ℕ) (i : ℕ) → i < length arrivals → getD (map f (begun k w [] arrivals)) i 0 ≡ f (getD (begun k w [] arrivals) i 0)
+from-start f k w arrivals i h = getD-map f (begun k w [] arrivals) i 0 0 (omega (arith, begun-length k w [] arrivals))
 
-pub leaves-in-turn : (k p : ℕ) → 1 ≤ k → LeavesInTurn k p (served (machine k p) [])
+pub leaves-in-turn : (k p : ℕ) → 1 ≤ k → LeavesInTurn k p (served k (machine p) [])
 leaves-in-turn k p h arrivals zero o l = absurd (omega arith)
 leaves-in-turn k p h arrivals (suc i) o l =
-    let w : Pace = machine k p in
-    let is = served-begun w [] arrivals in
+    let w : Pace = machine p in
+    let is = served-begun k w [] arrivals in
     ap (λ (d : List ℕ). getD d i 0) is
-    ∙ from-start (λ s. cut (s + p)) w arrivals i (omega arith)
+    ∙ from-start (λ s. cut (s + p)) k w arrivals i (omega arith)
     ∙ ap (λ s. cut (s + p))
-    (begun-at w [] arrivals i h (omega arith)
-    ∙ ap (max (getD arrivals i 0)) (prior-at k (frees w [] arrivals) i ∙ ap (λ (d : List ℕ). at d (suc i - k)) (sym is)))
+    (begun-at k w [] arrivals i h (omega arith)
+    ∙ ap (max (getD arrivals i 0)) (prior-at k (frees k w [] arrivals) i ∙ ap (λ (d : List ℕ). at d (suc i - k)) (sym is)))
 
 rounded-up : (t a : ℕ) → 1 ≤ t → RoundedUp t a (round-up t a)
 rounded-up t a h =
@@ -109,49 +109,49 @@ rounded-up t a h =
 -- a start of an oven by the start as many parts before as it has places
 oven-start :
     (t b p : ℕ) (arrivals : List ℕ) (i : ℕ) → 1 ≤ b → i < length arrivals
-    → at (map cut (begun (oven t b p) [] arrivals)) (suc i)
+    → at (map cut (begun b (oven t p) [] arrivals)) (suc i)
     ≡ cut
-    (max (round-up t (getD arrivals i 0)) (cond (ltb b (suc i)) (at (map cut (begun (oven t b p) [] arrivals)) (suc i - b) + t) 0))
+    (max (round-up t (getD arrivals i 0)) (cond (ltb b (suc i)) (at (map cut (begun b (oven t p) [] arrivals)) (suc i - b) + t) 0))
 oven-start t b p arrivals i h l = go (decLe b i)
   where
     u : ℕ
     u = round-up t (getD arrivals i 0)
 
-    start-at : (j : ℕ) → j < length arrivals → getD (map cut (begun (oven t b p) [] arrivals)) j 0 ≡ cut (getD (begun (oven t b p) [] arrivals) j 0)
-    start-at j k = from-start cut (oven t b p) arrivals j k
+    start-at : (j : ℕ) → j < length arrivals → getD (map cut (begun b (oven t p) [] arrivals)) j 0 ≡ cut (getD (begun b (oven t p) [] arrivals) j 0)
+    start-at j k = from-start cut b (oven t p) arrivals j k
 
     waited :
-        getD (begun (oven t b p) [] arrivals) i 0 ≡ max (round-up t (getD arrivals i 0)) (prior b [] (frees (oven t b p) [] arrivals) i)
-    waited = begun-at (oven t b p) [] arrivals i h l
+        getD (begun b (oven t p) [] arrivals) i 0 ≡ max (round-up t (getD arrivals i 0)) (prior b [] (frees b (oven t p) [] arrivals) i)
+    waited = begun-at b (oven t p) [] arrivals i h l
 
     go :
         Dec (b ≤ i)
-        → at (map cut (begun (oven t b p) [] arrivals)) (suc i)
+        → at (map cut (begun b (oven t p) [] arrivals)) (suc i)
         ≡ cut
-        (max (round-up t (getD arrivals i 0)) (cond (ltb b (suc i)) (at (map cut (begun (oven t b p) [] arrivals)) (suc i - b) + t) 0))
+        (max (round-up t (getD arrivals i 0)) (cond (ltb b (suc i)) (at (map cut (begun b (oven t p) [] arrivals)) (suc i - b) + t) 0))
     go (yes y) =
         let e : suc (i - b) ≡ suc i - b = omega arith in
-        let s : at (map cut (begun (oven t b p) [] arrivals)) (suc i - b) ≡ cut (getD (begun (oven t b p) [] arrivals) (i - b) 0) =
-        sym (ap (at (map cut (begun (oven t b p) [] arrivals))) e) ∙ start-at (i - b) (omega arith) in
-        let f : prior b [] (frees (oven t b p) [] arrivals) i ≡ cut (getD (begun (oven t b p) [] arrivals) (i - b) 0 + t) =
-        prior-since b [] (frees (oven t b p) [] arrivals) i y ∙ from-start (λ s. cut (s + t)) (oven t b p) arrivals (i - b) (omega arith) in
-        let m : cond (ltb b (suc i)) (at (map cut (begun (oven t b p) [] arrivals)) (suc i - b) + t) 0
-        ≡ at (map cut (begun (oven t b p) [] arrivals)) (suc i - b) + t =
-        ap (λ c. cond c (at (map cut (begun (oven t b p) [] arrivals)) (suc i - b) + t) 0) (lt-ltb b (suc i) (omega arith)) in
+        let s : at (map cut (begun b (oven t p) [] arrivals)) (suc i - b) ≡ cut (getD (begun b (oven t p) [] arrivals) (i - b) 0) =
+        sym (ap (at (map cut (begun b (oven t p) [] arrivals))) e) ∙ start-at (i - b) (omega arith) in
+        let f : prior b [] (frees b (oven t p) [] arrivals) i ≡ cut (getD (begun b (oven t p) [] arrivals) (i - b) 0 + t) =
+        prior-since b [] (frees b (oven t p) [] arrivals) i y ∙ from-start (λ s. cut (s + t)) b (oven t p) arrivals (i - b) (omega arith) in
+        let m : cond (ltb b (suc i)) (at (map cut (begun b (oven t p) [] arrivals)) (suc i - b) + t) 0
+        ≡ at (map cut (begun b (oven t p) [] arrivals)) (suc i - b) + t =
+        ap (λ c. cond c (at (map cut (begun b (oven t p) [] arrivals)) (suc i - b) + t) 0) (lt-ltb b (suc i) (omega arith)) in
         omega (arith, start-at i l, waited)
     go (no n) =
-        let f : prior b [] (frees (oven t b p) [] arrivals) i ≡ 0 = prior-first b [] (frees (oven t b p) [] arrivals) i (omega arith) in
-        let m : cond (ltb b (suc i)) (at (map cut (begun (oven t b p) [] arrivals)) (suc i - b) + t) 0 ≡ 0 =
-        ap (λ c. cond c (at (map cut (begun (oven t b p) [] arrivals)) (suc i - b) + t) 0) (le-ltb b (suc i) (omega arith)) in
+        let f : prior b [] (frees b (oven t p) [] arrivals) i ≡ 0 = prior-first b [] (frees b (oven t p) [] arrivals) i (omega arith) in
+        let m : cond (ltb b (suc i)) (at (map cut (begun b (oven t p) [] arrivals)) (suc i - b) + t) 0 ≡ 0 =
+        ap (λ c. cond c (at (map cut (begun b (oven t p) [] arrivals)) (suc i - b) + t) 0) (le-ltb b (suc i) (omega arith)) in
         omega (arith, start-at i l, waited)
 
-pub starts-in-turn : (t b p : ℕ) → 1 ≤ t → 1 ≤ b → StartsInTurn t b p (served (oven t b p) [])
+pub starts-in-turn : (t b p : ℕ) → 1 ≤ t → 1 ≤ b → StartsInTurn t b p (served b (oven t p) [])
 starts-in-turn t b p h k = (
   λ a. rounded-up t a h,
   λ arrivals. (
-    map cut (begun (oven t b p) [] arrivals),
+    map cut (begun b (oven t p) [] arrivals),
     record {
-      one-each = length-map (begun (oven t b p) [] arrivals) cut ∙ begun-length (oven t b p) [] arrivals;
+      one-each = length-map (begun b (oven t p) [] arrivals) cut ∙ begun-length b (oven t p) [] arrivals;
       in-turn = λ n. in-turn arrivals n;
       leaves = λ n. leaves arrivals n;
     },
@@ -160,17 +160,17 @@ starts-in-turn t b p h k = (
   where
     in-turn :
         (arrivals : List ℕ) (n : ℕ) → 1 ≤ n → n ≤ length arrivals
-        → at (map cut (begun (oven t b p) [] arrivals)) n
-        ≡ cut (max (round-up t (at arrivals n)) (cond (ltb b n) (at (map cut (begun (oven t b p) [] arrivals)) (n - b) + t) 0))
+        → at (map cut (begun b (oven t p) [] arrivals)) n
+        ≡ cut (max (round-up t (at arrivals n)) (cond (ltb b n) (at (map cut (begun b (oven t p) [] arrivals)) (n - b) + t) 0))
     in-turn arrivals zero o l = absurd (omega arith)
     in-turn arrivals (suc i) o l = oven-start t b p arrivals i k (omega arith)
 
     leaves :
         (arrivals : List ℕ) (n : ℕ) → 1 ≤ n → n ≤ length arrivals
-        → at (served (oven t b p) [] arrivals) n ≡ cut (at (map cut (begun (oven t b p) [] arrivals)) n + p)
+        → at (served b (oven t p) [] arrivals) n ≡ cut (at (map cut (begun b (oven t p) [] arrivals)) n + p)
     leaves arrivals zero o l = absurd (omega arith)
     leaves arrivals (suc i) o l =
-        let d : getD (served (oven t b p) [] arrivals) i 0 ≡ cut (getD (begun (oven t b p) [] arrivals) i 0 + p) =
-        ap (λ (d : List ℕ). getD d i 0) (served-begun (oven t b p) [] arrivals)
-        ∙ from-start (λ s. cut (s + p)) (oven t b p) arrivals i (omega arith) in
-        omega (arith, from-start cut (oven t b p) arrivals i (omega arith))
+        let d : getD (served b (oven t p) [] arrivals) i 0 ≡ cut (getD (begun b (oven t p) [] arrivals) i 0 + p) =
+        ap (λ (d : List ℕ). getD d i 0) (served-begun b (oven t p) [] arrivals)
+        ∙ from-start (λ s. cut (s + p)) b (oven t p) arrivals i (omega arith) in
+        omega (arith, from-start cut b (oven t p) arrivals i (omega arith))

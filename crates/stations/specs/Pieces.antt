@@ -6,10 +6,6 @@ use Rattle.calendar.specs.Week.{open-before, time-by}
 use Rattle.calendar.specs.WeekOf.{shifts-of}
 use Rattle.calendar.specs.declared.week.Week.{Week}
 use Rattle.stations.specs.Layer.{Pass}
-use Rattle.stations.specs.Rule.{Meaning}
-use Rattle.stations.specs.Serving.{serving, machine, oven}
-use Rattle.stations.specs.declared.machines.Machine.{Machine}
-use Rattle.stations.specs.declared.ovens.Oven.{Oven}
 
 -- The settings of each piece in their order, with their ranges.
 abbrev pub machine-settings : ℕ → ℕ → List Setting
@@ -22,13 +18,6 @@ oven-settings cycle places bake =
 
 abbrev pub move-settings : ℕ → List Setting
 move-settings minutes = record { low = 0; high = 1440; value = minutes } ∷ []
-
--- What a machine and an oven mean.
-abbrev pub machine-meaning : Machine → Meaning
-machine-meaning m = serving (machine (m .places .count) (m .minutes)) (m .places .free) (m .last)
-
-abbrev pub oven-meaning : Oven → Meaning
-oven-meaning o = serving (oven (o .cycle) (o .places .count) (o .bake)) (o .places .free) (o .last)
 
 -- A move of t minutes: the part arrives below so much later.
 abbrev pub moving : ℕ → Pass

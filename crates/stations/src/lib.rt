@@ -5,4 +5,5 @@ pub mod machines;
 pub mod moves;
 pub mod ovens;
 mod places;
+pub mod served;
 pub mod weekly;
