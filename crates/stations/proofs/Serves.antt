@@ -12,6 +12,7 @@ use Rattle.std.specs.declared.option.Option.the-variants.{Some, None}
 use Rattle.std.specs.declared.result.Result.the-variants.{Ok}
 use Rattle.calendar.specs.Clock.{E, cut}
 use Rattle.stations.specs.Load.{refusal, Loaded}
+use Rattle.stations.proofs.Layering.{granted}
 use Rattle.stations.specs.Rule.{Rule, Meaning, Rising, Below, Later, Lawful, before}
 use Rattle.stations.specs.Serving.{Pace, Steady, start, served, serving, machine, oven, round-up}
 
@@ -117,22 +118,32 @@ serves-fresh k k′ w free h same e =
     ∙ ap {B = Meaning} (λ (r : Rule). record { rule = r; fresh = served k w []; early = before None })
     (ap (served k w) e ∙ fun-ext (λ arrivals. served-agree k w (replicate 16 0) [] arrivals h (λ i l. zeros 16 i)))
 
--- one load: the part starts at s, leaves at d, and its place is taken
+-- one load: the part may start at e, starts at s, leaves at d, and its place is taken
 pub serves :
-    (k k′ : ℕ) (w : Pace) (free free′ : List ℕ) (last : Option ℕ) (a s d : ℕ) → 1 ≤ k → k ≤ 16 → k′ ≡ k → refusal (before last) a ≡ None
-    → s ≡ start k w free a → d ≡ cut (s + w .stay) → ((i : ℕ) → i < 16 → getD free′ i 0 ≡ getD (cut (s + w .turn) ∷ free) i 0)
+    (k k′ : ℕ) (w : Pace) (free free′ : List ℕ) (last : Option ℕ) (a e u v s d : ℕ) → 1 ≤ k → k ≤ 16 → k′ ≡ k
+    → None ≡ refusal (before last) a → (a ≤ E → e ≡ w .from a) → u ≡ w .turn → v ≡ w .stay → s ≡ max e (getD free (k - 1) 0)
+    → d ≡ cut (s + v) → ((i : ℕ) → i < 16 → getD free′ i 0 ≡ getD (cut (s + u) ∷ free) i 0)
     → Loaded (serving k w free last) a (Ok d) (serving k′ w free′ (Some a))
-serves k k′ w free free′ last a s d h fit same ok es ed f =
+serves k k′ w free free′ last a e u v s d h fit same ok from turn stay es ed f =
     let P : ℕ → Type 0 = λ n. Loaded (serving k w free last) a (Ok d) (serving n w free′ (Some a)) in
     subst P (sym same) (
-      ok,
+      sym ok,
       refl,
       refl,
       λ arrivals r.
-          ap (λ n. cut (n + w .stay) ∷ served k w (cut (n + w .turn) ∷ free) arrivals) (sym es)
-          ∙ ap (λ n. n ∷ served k w (cut (s + w .turn) ∷ free) arrivals) (sym ed)
-          ∙ ap (λ (l : List ℕ). d ∷ l) (served-agree k w (cut (s + w .turn) ∷ free) free′ arrivals h (λ i l. sym (f i (omega arith)))),
+          ap (λ n. cut (n + w .stay) ∷ served k w (cut (n + w .turn) ∷ free) arrivals) (sym starts)
+          ∙ ap (λ n. n ∷ served k w (cut (s + w .turn) ∷ free) arrivals) (sym leaves-at)
+          ∙ ap (λ (l : List ℕ). d ∷ l) (served-agree k w (cut (s + w .turn) ∷ free) free′ arrivals h (λ i l. sym (taken i (omega arith)))),
     )
+  where
+    starts : s ≡ start k w free a
+    starts = es ∙ ap (λ n. max n (getD free (k - 1) 0)) (from (granted (before last) a (sym ok) .0))
+
+    leaves-at : d ≡ cut (s + w .stay)
+    leaves-at = ed ∙ ap (λ n. cut (s + n)) stay
+
+    taken : (i : ℕ) → i < 16 → getD free′ i 0 ≡ getD (cut (s + w .turn) ∷ free) i 0
+    taken i l = f i l ∙ ap (λ n. getD (cut (s + n) ∷ free) i 0) turn
 
 pub machine-steady : (p : ℕ) → 1 ≤ p → Steady (machine p)
 machine-steady p h = record { rises = λ a b l. l; waits = λ a. omega arith; stays = h }

@@ -6,3 +6,4 @@ pub mod Serving
 pub mod ServingLaw
 pub mod Pieces
 pub mod ByHand
+pub mod Cores

@@ -1,4 +1,5 @@
 // Stations: each is loaded with the arrival minutes of its parts and answers their departure minutes.
+pub mod cores;
 pub mod layers;
 pub mod loading;
 pub mod machines;

@@ -33,9 +33,9 @@ pub trait Work {
 // A station whose parts take its places in turn.
 #[derive(Drop)]
 pub struct Served<W> {
-    work: W,
-    places: Places,
-    last: Option<u32>,
+    pub(crate) work: W,
+    pub(crate) places: Places,
+    pub(crate) last: Option<u32>,
 }
 
 impl<W: Work> Served<W> {

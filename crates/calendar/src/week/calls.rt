@@ -201,7 +201,7 @@ impl Week {
     pub fn open_before(&self, time: u32) -> u32
         ensures { λ r. ⌜ r ≡ open-before (shifts-of (now (self .entry))) time ⌝ }
     {
-        time / WEEK * self.minutes + opened_before(&self.table[..self.count], time % WEEK)
+        time / WEEK * self.open_minutes() + opened_before(&self.table[..self.count], time % WEEK)
     }
 
     // The earliest minute by which `work` open minutes have passed, cut at the end of the clock.
@@ -212,8 +212,9 @@ impl Week {
         if work == 0 {
             return 0;
         }
-        let weeks = (work - 1) / self.minutes;
-        let minute = minute_by(&self.table[..self.count], (work - 1) % self.minutes + 1);
+        let weekly = self.open_minutes();
+        let weeks = (work - 1) / weekly;
+        let minute = minute_by(&self.table[..self.count], (work - 1) % weekly + 1);
         if weeks >= 100 {
             END
         } else {

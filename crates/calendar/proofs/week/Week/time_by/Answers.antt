@@ -10,9 +10,10 @@ use Rattle.calendar.proofs.week.Week.time_by.Needs as need
 pub add-weeks : need.add-weeks
 add-weeks c =
     let w = c .args .self .now in
-    let l : (c .args .work - 1) % w .minutes < w .minutes = mod-lt (c .args .work - 1) (w .opens) in
-    let h : (c .args .work - 1) % w .minutes + 1 ≤ total (shifts-of w) = omega (arith, w .sum) in
-    let m = within 0 (shifts-of w) ((c .args .work - 1) % w .minutes + 1) (week-ordered w) (omega arith) h in
+    let n = c .open-minutes-weekly in
+    let l : (c .args .work - 1) % n .result < n .result = mod-lt (c .args .work - 1) (n .ensures .opens .0) in
+    let h : (c .args .work - 1) % n .result + 1 ≤ total (shifts-of w) = omega (arith, n .ensures .value) in
+    let m = within 0 (shifts-of w) ((c .args .work - 1) % n .result + 1) (week-ordered w) (omega arith) h in
     omega (arith, m .below)
 
 pub returns-then-work-eq0 : need.returns-then-work-eq0
