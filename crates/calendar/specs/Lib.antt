@@ -5,3 +5,4 @@ pub mod WeekRefused
 pub mod WeekOf
 pub mod WeekLaw
 pub mod ByHand
+pub mod House

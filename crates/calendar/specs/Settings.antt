@@ -1,9 +1,12 @@
+use mathlib.Core.Path.{_≡_}
 use mathlib.Core.Bool.{Bool, cond, _||_}
 use mathlib.Core.List.{List, [], _∷_}
 use Prim.Native.Nat.{ℕ, suc}
 use lib.Dec.{ltb}
 use Rattle.std.specs.declared.option.Option.{Option}
 use Rattle.std.specs.declared.option.Option.the-variants.{Some, None}
+use Rattle.std.specs.declared.result.Result.{Result}
+use Rattle.std.specs.declared.result.Result.the-variants.{Ok, Err}
 use Rattle.calendar.specs.declared.settings.Piece.{Piece}
 use Rattle.calendar.specs.declared.settings.Piece.the-variants as pieces
 use Rattle.calendar.specs.declared.settings.SettingFault.{SettingFault}
@@ -38,3 +41,8 @@ first-off piece position (s ∷ ss) =
     cond (off (s .low) (s .high) (s .value))
     (Some (record { number = 1; piece = piece; position = position; value = s .value }))
     (first-off piece (suc position) ss)
+
+-- What making a piece answers: the piece, of which P holds, where nothing refuses it, and else the fault that tells the refusal.
+abbrev pub Makes : {T : Type 0} → Option Told → (T → Type 0) → Result T SettingFault → Type 0
+Makes refusal P (Ok x) = (refusal ≡ None) × P x
+Makes refusal P (Err e) = refusal ≡ Some (told e)

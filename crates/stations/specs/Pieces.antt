@@ -4,6 +4,7 @@ use Rattle.calendar.specs.Clock.{cut}
 use Rattle.calendar.specs.Settings.{Setting}
 use Rattle.calendar.specs.Week.{open-before, time-by}
 use Rattle.calendar.specs.WeekOf.{shifts-of}
+use Rattle.calendar.specs.declared.shifts.Shift.{Shift}
 use Rattle.calendar.specs.declared.week.Week.{Week}
 use Rattle.stations.specs.Layer.{Pass}
 
@@ -23,6 +24,11 @@ move-settings minutes = record { low = 0; high = 1440; value = minutes } ∷ []
 abbrev pub moving : ℕ → Pass
 moving t = record { down = λ a. cut (a + t); up = λ d. d }
 
--- Under a week: a time goes down as the open minutes before it, and comes up as the earliest minute by which so many have passed.
+-- In the open minutes of some shifts: a time goes down as the open minutes before it, and comes up as the earliest minute by which
+-- so many have passed.
+abbrev pub in-shifts : List Shift → Pass
+in-shifts ss = record { down = open-before ss; up = λ x. cut (time-by ss x) }
+
+-- Under a week.
 abbrev pub weekly : Week → Pass
-weekly w = record { down = open-before (shifts-of w); up = λ x. cut (time-by (shifts-of w) x) }
+weekly w = in-shifts (shifts-of w)

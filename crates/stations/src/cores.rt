@@ -1,8 +1,7 @@
 ghost use mathlib.Core.Path.{_≡_};
 ghost use mathlib.Core.List.{[]};
-ghost use Rattle.std.specs.declared.option.Option.the-variants.{Some, None};
-ghost use Rattle.std.specs.declared.result.Result.the-variants.{Ok, Err};
-ghost use Rattle.calendar.specs.Settings.{told, first-off};
+ghost use Rattle.std.specs.declared.option.Option.the-variants.{None};
+ghost use Rattle.calendar.specs.Settings.{first-off, Makes};
 ghost use Rattle.calendar.specs.declared.settings.Piece.the-variants as pieces;
 ghost use Rattle.stations.specs.Cores.{core-pace};
 ghost use Rattle.stations.specs.Pieces.{machine-settings, oven-settings};
@@ -10,13 +9,11 @@ ghost use Rattle.stations.specs.Serving.{serving, machine, oven};
 use crate::machines::Machine;
 use crate::machines::MachineWork;
 use crate::machines::MachineWorkWork;
-use crate::moves::Move;
 use crate::ovens::Oven;
 use crate::ovens::OvenWork;
 use crate::ovens::OvenWorkWork;
 use crate::served::Served;
 use crate::served::Work;
-use crate::weekly::InWeek;
 use calendar::settings::SettingFault;
 
 // What works on the parts of a station of the shop.
@@ -57,7 +54,7 @@ pub type Core = Served<CoreWork>;
 impl Served<CoreWork> {
     // A fresh machine, or which setting is off its range.
     pub fn machine(places: u32, minutes: u32) -> Result<Core, SettingFault>
-        ensures { λ r. ⌜ elim r [ Ok c ↦ (first-off pieces.Machine 1 (machine-settings places minutes) ≡ None) × (serving (c .places .count) (core-pace (c .work)) (c .places .free) (c .last) ≡ serving places (machine minutes) [] None) | Err e ↦ first-off pieces.Machine 1 (machine-settings places minutes) ≡ Some (told e) ] ⌝ }
+        ensures { λ r. ⌜ Makes (first-off pieces.Machine 1 (machine-settings places minutes)) (λ c. (serving (c .places .count) (core-pace (c .work)) (c .places .free) (c .last) ≡ serving places (machine minutes) [] None)) r ⌝ }
     {
         let Served { work, places, last } = Machine::new(places, minutes)?;
         Ok(Served {
@@ -69,7 +66,7 @@ impl Served<CoreWork> {
 
     // A fresh oven, or which setting is off its range.
     pub fn oven(cycle: u32, places: u32, bake: u32) -> Result<Core, SettingFault>
-        ensures { λ r. ⌜ elim r [ Ok c ↦ (first-off pieces.Oven 1 (oven-settings cycle places bake) ≡ None) × (serving (c .places .count) (core-pace (c .work)) (c .places .free) (c .last) ≡ serving places (oven cycle bake) [] None) | Err e ↦ first-off pieces.Oven 1 (oven-settings cycle places bake) ≡ Some (told e) ] ⌝ }
+        ensures { λ r. ⌜ Makes (first-off pieces.Oven 1 (oven-settings cycle places bake)) (λ c. (serving (c .places .count) (core-pace (c .work)) (c .places .free) (c .last) ≡ serving places (oven cycle bake) [] None)) r ⌝ }
     {
         let Served { work, places, last } = Oven::new(cycle, places, bake)?;
         Ok(Served {
@@ -79,6 +76,3 @@ impl Served<CoreWork> {
         })
     }
 }
-
-// A station of the shop: a move over a week over a core.
-pub type Pile = Move<InWeek<Core>>;

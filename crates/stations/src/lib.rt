@@ -5,6 +5,7 @@ pub mod loading;
 pub mod machines;
 pub mod moves;
 pub mod ovens;
+pub mod piles;
 mod places;
 pub mod served;
 pub mod weekly;

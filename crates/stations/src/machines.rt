@@ -1,9 +1,8 @@
 ghost use mathlib.Core.Path.{_≡_};
 ghost use mathlib.Core.List.{[]};
 ghost use Prim.Native.Nat.{_≤_};
-ghost use Rattle.std.specs.declared.option.Option.the-variants.{Some, None};
-ghost use Rattle.std.specs.declared.result.Result.the-variants.{Ok, Err};
-ghost use Rattle.calendar.specs.Settings.{told, first-off};
+ghost use Rattle.std.specs.declared.option.Option.the-variants.{None};
+ghost use Rattle.calendar.specs.Settings.{first-off, Makes};
 ghost use Rattle.calendar.specs.declared.settings.Piece.the-variants as pieces;
 ghost use Rattle.stations.specs.ByHand.{MachineByHand};
 ghost use Rattle.stations.specs.Pieces.{machine-settings};
@@ -46,7 +45,7 @@ pub type Machine = Served<MachineWork>;
 impl Served<MachineWork> {
     // A fresh machine of 1 to 8 places and 1 to 1,440 minutes, or which setting is off its range.
     pub fn new(places: u32, minutes: u32) -> Result<Machine, SettingFault>
-        ensures { λ r. ⌜ elim r [ Ok m ↦ (first-off pieces.Machine 1 (machine-settings places minutes) ≡ None) × (serving (m .places .count) (machine (m .work .minutes)) (m .places .free) (m .last) ≡ serving places (machine minutes) [] None) × LeavesInTurn places minutes (served places (machine minutes) []) | Err e ↦ first-off pieces.Machine 1 (machine-settings places minutes) ≡ Some (told e) ] ⌝ }
+        ensures { λ r. ⌜ Makes (first-off pieces.Machine 1 (machine-settings places minutes)) (λ m. (serving (m .places .count) (machine (m .work .minutes)) (m .places .free) (m .last) ≡ serving places (machine minutes) [] None) × LeavesInTurn places minutes (served places (machine minutes) [])) r ⌝ }
     {
         on_range(Piece::Machine, 1, places, 1, 8)?;
         on_range(Piece::Machine, 2, minutes, 1, 1440)?;

@@ -1,8 +1,6 @@
 ghost use mathlib.Core.Path.{_≡_};
 ghost use Prim.Native.Nat.{_≤_};
-ghost use Rattle.std.specs.declared.option.Option.the-variants.{Some, None};
-ghost use Rattle.std.specs.declared.result.Result.the-variants.{Ok, Err};
-ghost use Rattle.calendar.specs.Settings.{told, first-off};
+ghost use Rattle.calendar.specs.Settings.{first-off, Makes};
 ghost use Rattle.calendar.specs.declared.settings.Piece.the-variants as pieces;
 ghost use Rattle.stations.specs.Pieces.{move-settings, moving};
 use crate::layers::Over;
@@ -22,7 +20,7 @@ pub struct Way {
 impl Way {
     // A way of 0 to 1,440 minutes, or that the setting is off its range.
     pub fn new(minutes: u32) -> Result<Way, SettingFault>
-        ensures { λ r. ⌜ elim r [ Ok w ↦ (first-off pieces.Move 1 (move-settings minutes) ≡ None) × (w .minutes ≡ minutes) | Err e ↦ first-off pieces.Move 1 (move-settings minutes) ≡ Some (told e) ] ⌝ }
+        ensures { λ r. ⌜ Makes (first-off pieces.Move 1 (move-settings minutes)) (λ w. (w .minutes ≡ minutes)) r ⌝ }
     {
         on_range(Piece::Move, 1, minutes, 0, 1440)?;
         Ok(Way { minutes })

@@ -1,9 +1,8 @@
 ghost use mathlib.Core.Path.{_≡_};
 ghost use mathlib.Core.List.{[]};
 ghost use Prim.Native.Nat.{_≤_};
-ghost use Rattle.std.specs.declared.option.Option.the-variants.{Some, None};
-ghost use Rattle.std.specs.declared.result.Result.the-variants.{Ok, Err};
-ghost use Rattle.calendar.specs.Settings.{told, first-off};
+ghost use Rattle.std.specs.declared.option.Option.the-variants.{None};
+ghost use Rattle.calendar.specs.Settings.{first-off, Makes};
 ghost use Rattle.calendar.specs.declared.settings.Piece.the-variants as pieces;
 ghost use Rattle.stations.specs.ByHand.{OvenByHand};
 ghost use Rattle.stations.specs.Pieces.{oven-settings};
@@ -59,7 +58,7 @@ impl Served<OvenWork> {
     // A fresh oven with a cycle of 1 to 1,440 minutes, 1 to 16 places and 1 minute to a cycle of baking, or which setting is
     // off its range.
     pub fn new(cycle: u32, places: u32, bake: u32) -> Result<Oven, SettingFault>
-        ensures { λ r. ⌜ elim r [ Ok o ↦ (first-off pieces.Oven 1 (oven-settings cycle places bake) ≡ None) × (serving (o .places .count) (oven (o .work .cycle) (o .work .bake)) (o .places .free) (o .last) ≡ serving places (oven cycle bake) [] None) × StartsInTurn cycle places bake (served places (oven cycle bake) []) | Err e ↦ first-off pieces.Oven 1 (oven-settings cycle places bake) ≡ Some (told e) ] ⌝ }
+        ensures { λ r. ⌜ Makes (first-off pieces.Oven 1 (oven-settings cycle places bake)) (λ o. (serving (o .places .count) (oven (o .work .cycle) (o .work .bake)) (o .places .free) (o .last) ≡ serving places (oven cycle bake) [] None) × StartsInTurn cycle places bake (served places (oven cycle bake) [])) r ⌝ }
     {
         on_range(Piece::Oven, 1, cycle, 1, 1440)?;
         on_range(Piece::Oven, 2, places, 1, 16)?;

@@ -4,10 +4,9 @@ ghost use Prim.Native.Nat.{_≤_};
 ghost use lib.ListN.{length};
 ghost use Rattle.std.specs.Options.{mapped};
 ghost use Rattle.std.specs.Results.{errPart};
-ghost use Rattle.std.specs.declared.option.Option.the-variants.{Some, None};
-ghost use Rattle.std.specs.declared.result.Result.the-variants.{Ok, Err};
+ghost use Rattle.std.specs.declared.option.Option.the-variants.{None};
 ghost use Rattle.calendar.specs.Clock.{cut};
-ghost use Rattle.calendar.specs.Settings.{told};
+ghost use Rattle.calendar.specs.Settings.{told, Makes};
 ghost use Rattle.calendar.specs.Week.{ordered, open-before, opened, total, reached, time-by};
 ghost use Rattle.calendar.specs.WeekRefused.{count-off, shift-past, first-past, shift-unordered, first-unordered, week-refusal};
 ghost use Rattle.calendar.specs.WeekOf.{shifts-of, all-week, early-week};
@@ -127,7 +126,7 @@ const CLOSED: Shift = Shift { begin: 0, end: 0 };
 impl Week {
     // The week of these shifts, or why they are none.
     pub fn new(shifts: &[Shift]) -> Result<Week, SettingFault>
-        ensures { λ r. ⌜ elim r [ Ok w ↦ (week-refusal (now (shifts .entry)) ≡ None) × (shifts-of w ≡ now (shifts .entry)) | Err e ↦ week-refusal (now (shifts .entry)) ≡ Some (told e) ] ⌝ }
+        ensures { λ r. ⌜ Makes (week-refusal (now (shifts .entry))) (λ w. shifts-of w ≡ now (shifts .entry)) r ⌝ }
     {
         count_in_range(shifts.len())?;
         all_in_week(shifts)?;

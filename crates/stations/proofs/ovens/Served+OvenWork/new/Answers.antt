@@ -7,4 +7,4 @@ pub returns : need.returns
 returns c =
     let turns : 1 ≤ c .args .cycle = search needs in
     let some : 1 ≤ c .args .places = search needs in
-    (search needs, c .with-places .ensures, starts-in-turn (c .args .cycle) (c .args .places) (c .args .bake) turns some)
+    (search needs, (c .with-places .ensures, starts-in-turn (c .args .cycle) (c .args .places) (c .args .bake) turns some))
