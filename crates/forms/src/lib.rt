@@ -1,0 +1,5 @@
+pub mod cursor;
+mod lines;
+mod numbers;
+pub mod stages;
+mod words;

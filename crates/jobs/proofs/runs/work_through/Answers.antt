@@ -1,0 +1,24 @@
+use mathlib.Core.Path.{_≡_, ap, subst}
+use mathlib.Core.List.{List, []}
+use Rattle.std.specs.Of.Vec.{vec-items}
+use Rattle.std.specs.declared.option.Option.the-variants.{None}
+use Rattle.stations.specs.Rule.{Rule, Meaning}
+use Rattle.jobs.specs.Run.{Answered}
+use Rattle.jobs.proofs.Answering.{keeps-none, keeps-more, keeps-all}
+use Rattle.jobs.proofs.runs.work_through.Needs as need
+
+pub loop-asked-holds : need.loop-asked-holds
+loop-asked-holds g c =
+    keeps-none (c .args .entries .now) _ _ (g .S·Station .meaning (c .args .station .now)) (g .S·Station·met .lawful (c .fresh .last .self)) (c .fresh .ensures)
+    (c .new-answers .ensures .items)
+
+pub loop-asked-again : need.loop-asked-again
+loop-asked-again g c =
+    keeps-more _ (c .args .entries .now) (c .loop-asked .asked-index) _ _ _ _ _ _ (g .S·Station·met .lawful (c .fresh .last .self)) (c .loop-asked-test .taken)
+    (c .answer .ensures) (c .in-Continue-push .ensures tt .items) (c .loop-asked .inv)
+
+pub returns : need.returns
+returns g c =
+    let P : Rule → Type 0 = λ rule. Answered rule [] None (c .args .entries .now) (vec-items (c .loop-asked .answers)) in
+    subst P (ap (λ (m : Meaning). m .fresh) (c .fresh .ensures))
+    (keeps-all _ (c .args .entries .now) (c .loop-asked .asked-index) _ _ (c .loop-asked-test .left) (c .loop-asked .inv))

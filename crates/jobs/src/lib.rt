@@ -1,0 +1,4 @@
+// A job: an arrival list that is worked through at its station.
+pub mod answers;
+pub mod making;
+pub mod runs;
