@@ -2,3 +2,4 @@
 pub mod answers;
 pub mod making;
 pub mod runs;
+pub mod whole;
