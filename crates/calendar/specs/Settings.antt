@@ -2,6 +2,7 @@ use mathlib.Core.Path.{_≡_}
 use mathlib.Core.Bool.{Bool, cond, _||_}
 use mathlib.Core.List.{List, [], _∷_}
 use Prim.Native.Nat.{ℕ, suc}
+use lib.Chars.{codes}
 use lib.Dec.{ltb}
 use Rattle.std.specs.declared.option.Option.{Option}
 use Rattle.std.specs.declared.option.Option.the-variants.{Some, None}
@@ -11,6 +12,13 @@ use Rattle.calendar.specs.declared.settings.Piece.{Piece}
 use Rattle.calendar.specs.declared.settings.Piece.the-variants as pieces
 use Rattle.calendar.specs.declared.settings.SettingFault.{SettingFault}
 use Rattle.calendar.specs.declared.settings.SettingFault.the-variants.{OffRange, ShiftOrder}
+
+-- The word for a piece.
+abbrev pub piece-word : Piece → List ℕ
+piece-word pieces.Machine = codes "machine"
+piece-word pieces.Oven = codes "oven"
+piece-word pieces.Move = codes "move"
+piece-word pieces.Week = codes "week"
 
 -- What the refusal of a setting tells: its number, the piece, the setting's position in the piece, counted from 1, and its value.
 pub record Told : Type 0 where

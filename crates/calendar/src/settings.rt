@@ -2,7 +2,7 @@ ghost use mathlib.Core.Path.{_≡_};
 ghost use mathlib.Core.Bool.{cond};
 ghost use Rattle.std.specs.declared.result.Result.the-variants.{Ok, Err};
 ghost use Rattle.calendar.specs.declared.settings.SettingFault.the-variants.{OffRange};
-ghost use Rattle.calendar.specs.Settings.{off, told};
+ghost use Rattle.calendar.specs.Settings.{off, told, piece-word};
 
 // The pieces that a station is made of.
 #[derive(Clone, Copy, PartialEq, Eq, Debug)]
@@ -11,6 +11,20 @@ pub enum Piece {
     Oven,
     Move,
     Week,
+}
+
+impl Piece {
+    // The word for the piece.
+    pub fn word(self) -> &'static str
+        ensures { λ r. ⌜ now r ≡ piece-word self ⌝ }
+    {
+        match self {
+            Piece::Machine => "machine",
+            Piece::Oven => "oven",
+            Piece::Move => "move",
+            Piece::Week => "week",
+        }
+    }
 }
 
 // Why a piece cannot be made. Positions count from 1.

@@ -1,3 +1,4 @@
 pub mod Run
 pub mod Make
 pub mod Job
+pub mod Messages
