@@ -16,12 +16,18 @@ const MOST_READ: u64 = 16_385;
 fn tell_station(rt: &LibcRuntime, stage: StageForm<'_>) -> io::Result<()> {
     let name = std::str::from_utf8(stage.name).unwrap_or("");
     match stage.core {
-        CoreForm::Machine { places, minutes } => print!(rt, "station {name}: machine of {places} places, {minutes} minutes")?,
+        CoreForm::Machine { places, minutes } => print!(
+            rt,
+            "station {name}: machine of {places} places, {minutes} minutes"
+        )?,
         CoreForm::Oven {
             cycle,
             places,
             bake,
-        } => print!(rt, "station {name}: oven of {places} places, cycle {cycle}, bake {bake}")?,
+        } => print!(
+            rt,
+            "station {name}: oven of {places} places, cycle {cycle}, bake {bake}"
+        )?,
     }
     if let Some(minutes) = stage.travel {
         print!(rt, ", move {minutes}")?;

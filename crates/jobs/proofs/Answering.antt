@@ -40,10 +40,10 @@ none-left (x ∷ xs) h = absurd (omega arith)
 pub since-fresh : (rule : Rule) (m : Meaning) → Lawful rule → m .fresh ≡ rule → Since rule [] None (freshened m)
 since-fresh rule m L e =
     record {
-        fresh = e;
-        early = refl;
-        rises = λ xs r. r;
-        left = λ xs r. ap (λ (f : Rule). f xs) (sym e) ∙ ap (λ (l : List ℕ). l ++ m .fresh xs) (sym (none-left (rule []) (L .one-each [] tt)))
+      fresh = e;
+      early = refl;
+      rises = λ xs r. r;
+      left = λ xs r. ap (λ (f : Rule). f xs) (sym e) ∙ ap (λ (l : List ℕ). l ++ m .fresh xs) (sym (none-left (rule []) (L .one-each [] tt)));
     }
 
 not-before : (last : Option ℕ) (a : ℕ) → before last a ≡ false → low last ≤ a
@@ -68,36 +68,50 @@ module _ (rule : Rule) (L : Lawful rule) (gs : List ℕ) (last : Option ℕ) (m 
       let k : length (rule (gs ++ [])) ≡ length (gs ++ []) = L .one-each (gs ++ []) (s .rises [] tt) in
       let k′ : length (rule gs) ≡ length gs = ap (λ (x : List ℕ). length (rule x)) (sym (append-nil gs)) ∙ k ∙ ap length (append-nil gs) in
       let none : m′ .rule [] ≡ [] =
-          none-left (m′ .rule []) (omega (arith, ap length all, length-append (rule gs) (d ∷ m′ .rule []), length-append gs (a ∷ []))) in
+      none-left (m′ .rule []) (omega (arith, ap length all, length-append (rule gs) (d ∷ m′ .rule []), length-append gs (a ∷ []))) in
       all ∙ ap (λ (x : List ℕ). rule gs ++ (d ∷ x)) none
 
   since-leaves : (a d : ℕ) → Loaded m a (Ok d) m′ → Since rule (gs ++ (a ∷ [])) (Some a) m′
   since-leaves a d l =
       let f = fits a (l .0) in
       record {
-          fresh = l .2 ∙ s .fresh;
-          early = l .1;
-          rises = λ xs r. rw append-assoc (s .rises (a ∷ xs) (f .0, f .1, r));
-          left = λ xs r.
-              ap rule (append-assoc gs (a ∷ []) xs)
-              ∙ s .left (a ∷ xs) (f .0, f .1, r)
-              ∙ ap (λ (x : List ℕ). rule gs ++ x) (l .3 xs r)
-              ∙ sym (append-assoc (rule gs) (d ∷ []) (m′ .rule xs))
-              ∙ ap (λ (x : List ℕ). x ++ m′ .rule xs) (sym (leaves-next a d l))
+        fresh = l .2 ∙ s .fresh;
+        early = l .1;
+        rises = λ xs r. rw append-assoc (s .rises (a ∷ xs) (f .0, f .1, r));
+        left = λ xs r.
+            ap rule (append-assoc gs (a ∷ []) xs)
+            ∙ s .left (a ∷ xs) (f .0, f .1, r)
+            ∙ ap (λ (x : List ℕ). rule gs ++ x) (l .3 xs r)
+            ∙ sym (append-assoc (rule gs) (d ∷ []) (m′ .rule xs))
+            ∙ ap (λ (x : List ℕ). x ++ m′ .rule xs) (sym (leaves-next a d l));
       }
 
   -- what one entry takes on to the next
   advance :
       (e : Entry) (x : Answer) → Step m e x m′
       → (gs′ : List ℕ) × ((last′ : Option ℕ) × (Since rule gs′ last′ m′
-          × ((es : List Entry) (rest : List Answer) → Answered rule gs′ last′ es rest → Answered rule gs last (e ∷ es) (x ∷ rest))))
-  advance (Arrive a) (Leaves b d) t =
-      (gs ++ (a ∷ []), (Some a, (since-leaves a d (t .1),
-          λ es rest k. (t .0, ap (λ (f : ℕ → Bool). refusal f a) (sym (s .early)) ∙ t .1 .0, leaves-next a d (t .1), k))))
+      × ((es : List Entry) (rest : List Answer) → Answered rule gs′ last′ es rest → Answered rule gs last (e ∷ es) (x ∷ rest))))
+  advance (Arrive a) (Leaves b d) t = (
+    gs ++ (a ∷ []),
+    (
+      Some a,
+      (
+        since-leaves a d (t .1),
+        λ es rest k. (t .0, ap (λ (f : ℕ → Bool). refusal f a) (sym (s .early)) ∙ t .1 .0, leaves-next a d (t .1), k),
+      ),
+    ),
+  )
   advance (Arrive a) (Refused b e) t =
-      let P : Meaning → Type 0 = λ n. Since rule gs last n in
-      (gs, (last, (subst P (sym (t .1 .1)) s,
-          λ es rest k. (t .0, ap (λ (f : ℕ → Bool). refusal f a) (sym (s .early)) ∙ t .1 .0, k))))
+      let P : Meaning → Type 0 = λ n. Since rule gs last n in (
+        gs,
+        (
+          last,
+          (
+            subst P (sym (t .1 .1)) s,
+            λ es rest k. (t .0, ap (λ (f : ℕ → Bool). refusal f a) (sym (s .early)) ∙ t .1 .0, k),
+          ),
+        ),
+      )
   advance (Arrive a) Freshened t = absurd t
   advance Fresh (Leaves b d) t = absurd t
   advance Fresh (Refused b e) t = absurd t
@@ -109,7 +123,7 @@ module _ (rule : Rule) (L : Lawful rule) (gs : List ℕ) (last : Option ℕ) (m 
 abbrev pub Keeps : Rule → List Entry → ℕ → List Answer → Meaning → Type 0
 Keeps rule entries i answers m =
     (gs : List ℕ) × ((last : Option ℕ) × (Since rule gs last m
-        × ((rest : List Answer) → Answered rule gs last (drop i entries) rest → Answered rule [] None entries (answers ++ rest))))
+    × ((rest : List Answer) → Answered rule gs last (drop i entries) rest → Answered rule [] None entries (answers ++ rest))))
 
 pub keeps-none :
     (entries : List Entry) (answers : List Answer) (m before : Meaning) → Lawful (m .fresh) → m ≡ freshened before → answers ≡ []
@@ -127,12 +141,20 @@ pub keeps-more :
     → Keeps rule entries (i + 1) answers′ m′
 keeps-more rule entries i answers answers′ m m′ d x L h t p k =
     let a = advance rule L (k .0) (k .1 .0) m m′ (k .1 .1 .0) (getD entries i d) x t in
-    let next : drop i entries ≡ getD entries i d ∷ drop (i + 1) entries = rw (add-one, drop-cons entries i d) in
-    (a .0, (a .1 .0, (a .1 .1 .0, λ rest r.
-        let P : List Entry → Type 0 = λ es. Answered rule (k .0) (k .1 .0) es (x ∷ rest) in
-        let Q : List Answer → Type 0 = λ xs. Answered rule [] None entries xs in
-        subst Q (sym (append-assoc answers (x ∷ []) rest) ∙ ap (λ (l : List Answer). l ++ rest) (sym p))
-        (k .1 .1 .1 (x ∷ rest) (subst P (sym next) (a .1 .1 .1 (drop (i + 1) entries) rest r))))))
+    let next : drop i entries ≡ getD entries i d ∷ drop (i + 1) entries = rw (add-one, drop-cons entries i d) in (
+      a .0,
+      (
+        a .1 .0,
+        (
+          a .1 .1 .0,
+          λ rest r.
+              let P : List Entry → Type 0 = λ es. Answered rule (k .0) (k .1 .0) es (x ∷ rest) in
+              let Q : List Answer → Type 0 = λ xs. Answered rule [] None entries xs in
+              subst Q (sym (append-assoc answers (x ∷ []) rest) ∙ ap (λ (l : List Answer). l ++ rest) (sym p))
+              (k .1 .1 .1 (x ∷ rest) (subst P (sym next) (a .1 .1 .1 (drop (i + 1) entries) rest r))),
+        ),
+      ),
+    )
 
 pub keeps-all :
     (rule : Rule) (entries : List Entry) (i : ℕ) (answers : List Answer) (m : Meaning) → length entries ≤ i → Keeps rule entries i answers m

@@ -56,11 +56,11 @@ stage-fault-line UnknownWeek = codes "line 1 refused 16: unknown week"
 stage-fault-line (Setting fault) =
     codes "line 1 refused "
     ++ (decimal (told fault .number)
-        ++ (codes ": setting "
-            ++ (decimal (told fault .position)
-                ++ (codes " of the "
-                    ++ (piece-word (told fault .piece)
-                        ++ (codes " is " ++ (decimal (told fault .value) ++ (codes ", " ++ setting-reason fault))))))))
+    ++ (codes ": setting "
+    ++ (decimal (told fault .position)
+    ++ (codes " of the "
+    ++ (piece-word (told fault .piece)
+    ++ (codes " is " ++ (decimal (told fault .value) ++ (codes ", " ++ setting-reason fault))))))))
 
 -- The line that tells why a text is no arrival list.
 abbrev pub list-fault-line : ListFault → List ℕ

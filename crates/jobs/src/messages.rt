@@ -26,7 +26,10 @@ pub impl fmt::Display for Answer as AnswerDisplay {
 
     fn fmt<W: fmt::Write>(&self, f: &mut fmt::Formatter<W>) -> fmt::Result {
         match *self {
-            Answer::Leaves { arrival, departure } => write!(f, "arrival {arrival} leaves at {departure}"),
+            Answer::Leaves { arrival, departure } => write!(
+                f,
+                "arrival {arrival} leaves at {departure}"
+            ),
             Answer::Refused { arrival, fault } => {
                 let number = fault.number();
                 let reason = load_reason(fault);
@@ -101,7 +104,10 @@ pub impl fmt::Display for StageFault as StageFaultDisplay {
                 let piece = fault.piece().word();
                 let value = fault.value();
                 let reason = setting_reason(fault);
-                write!(f, "line 1 refused {number}: setting {position} of the {piece} is {value}, {reason}")
+                write!(
+                    f,
+                    "line 1 refused {number}: setting {position} of the {piece} is {value}, {reason}"
+                )
             }
         }
     }

@@ -3,11 +3,11 @@ ghost use Rattle.std.specs.Of.Vec.{vec-items};
 ghost use Rattle.std.specs.Vec.{made};
 ghost use Rattle.std.specs.declared.option.Option.the-variants.{None};
 ghost use Rattle.jobs.specs.Run.{Step, Answered};
+use crate::answers::Answer;
 use arrivals::lines::Entry;
 use stations::loading::Station;
 use std::alloc::AllocError;
 use std::alloc::Global;
-use crate::answers::Answer;
 
 // Does what one entry says.
 fn answer<S: Station>(station: &mut S, entry: Entry) -> Answer
@@ -27,7 +27,11 @@ fn answer<S: Station>(station: &mut S, entry: Entry) -> Answer
 
 // Makes the station fresh, does what each entry says and answers it. Each part that is taken leaves as the station's fresh
 // rule has it for the arrivals that were granted since the station was fresh.
-pub fn work_through<S: Station>(heap: Global, station: &mut S, entries: &[Entry]) -> Result<Vec<Answer>, AllocError>
+pub fn work_through<S: Station>(
+    heap: Global,
+    station: &mut S,
+    entries: &[Entry],
+) -> Result<Vec<Answer>, AllocError>
     ensures { λ r. ⌜ made r (λ v. Answered (S·Station .meaning (now (station .entry)) .fresh) [] None (now (entries .entry)) (vec-items v)) ⌝ }
 {
     station.fresh();

@@ -4,6 +4,12 @@ ghost use Rattle.std.specs.Results.{Cases as ByOk};
 ghost use Rattle.forms.specs.Stages.{stage-said};
 ghost use Rattle.jobs.specs.Job.{Done, NotDone, job-number};
 ghost use Rattle.jobs.specs.declared.whole.JobFault.the-variants.{List, Stage, NoMemory};
+use crate::answers::Answer;
+use crate::making::StageFault;
+use crate::making::StageFaultDebug;
+use crate::making::StageFaultPartialEq;
+use crate::making::make_station;
+use crate::runs::work_through;
 use arrivals::lists::ListFault;
 use arrivals::lists::ListFaultDebug;
 use arrivals::lists::ListFaultPartialEq;
@@ -16,12 +22,6 @@ use stations::served::ServedStation;
 use stations::weekly::WeekThrough;
 use std::alloc::AllocError;
 use std::alloc::Global;
-use crate::answers::Answer;
-use crate::making::StageFault;
-use crate::making::StageFaultDebug;
-use crate::making::StageFaultPartialEq;
-use crate::making::make_station;
-use crate::runs::work_through;
 
 // A stage, and what its station answered to the entries of the list.
 #[derive(Drop)]

@@ -7,7 +7,10 @@ returns c =
     let form = c .args .form in
     let core = c .in-Continue-core .ensures tt in
     let way = c .in-Continue-way .ensures tt in
-    let travel = c .unwrap-or .ensures in
-    (none-refused (form .core) (form .travel) _ _ (way .1) travel (core .0) (way .0),
-        (shifts-of (c .in-Continue-week .week),
-            (c .in-Continue-week .ensures tt, stationed (form .core) (form .travel) _ _ (way .1) travel _ _ _ (core .1) (c .piled .ensures))))
+    let travel = c .unwrap-or .ensures in (
+      none-refused (form .core) (form .travel) _ _ (way .1) travel (core .0) (way .0),
+      (
+        shifts-of (c .in-Continue-week .week),
+        (c .in-Continue-week .ensures tt, stationed (form .core) (form .travel) _ _ (way .1) travel _ _ _ (core .1) (c .piled .ensures)),
+      ),
+    )
