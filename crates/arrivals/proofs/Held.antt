@@ -1,8 +1,8 @@
 -- The entries that were read so far, and what is left of the text.
-use mathlib.Core.Path.{_≡_, refl, sym, _∙_, ap, subst}
+use mathlib.Core.Path.{_≡_, refl, sym, _∙_, ap}
 use mathlib.Core.Logic.{inr}
 use mathlib.Core.List.{List, [], _∷_, _++_, append-assoc}
-use Prim.Native.Nat.{ℕ, suc, _+_, _≤_, _<_}
+use Prim.Native.Nat.{ℕ, _+_, _≤_, _<_}
 use native.Mathlib.Omega.{arith}
 use lib.ListN.{length, length-append}
 use Rattle.std.specs.shelf.Lists.{All}
@@ -30,9 +30,6 @@ pub record Held (text rest : List ℕ) (es : List Entry) : Type 0 where
   pub is : text ≡ entries-ended es rest
   pub size : length es + length rest ≤ length text
   pub only : (ns : List Entry) → All EntryFits ns → text ≡ entries-written ns → Left ns es rest
-
-pub held-none : (text : List ℕ) → Held text text []
-held-none text = record { fit = tt; is = refl; size = omega arith; only = λ ns f e. record { more = ns; split = refl; fit = f; is = e } }
 
 lines-push : (es : List Entry) (e : Entry) (x : List ℕ) → entries-ended (es ++ (e ∷ [])) x ≡ entries-ended es (entry-ended e x)
 lines-push [] e x = refl

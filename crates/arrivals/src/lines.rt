@@ -14,7 +14,7 @@ use forms::stages::StageForm;
 // What a line after the first says.
 #[derive(Clone, Copy, PartialEq, Eq, Debug)]
 pub enum Entry {
-    // an item arrives at that minute
+    // a part arrives at that minute
     Arrive(u32),
     Fresh,
 }
@@ -26,6 +26,7 @@ enum EntryWord {
     Fresh,
 }
 
+// The entry word that `word` is, if it is one.
 fn entry_named(word: &[u8]) -> Option<EntryWord>
     ensures { λ r. ⌜ BySome r ((k : EntryWordType) → now (word .entry) ≡ entry-word k → ⊥) (λ k. now (word .entry) ≡ entry-word k) ⌝ }
 {
@@ -36,6 +37,7 @@ fn entry_named(word: &[u8]) -> Option<EntryWord>
     }
 }
 
+// Whether `word` is the one that the first line begins with.
 fn is_stage(word: &[u8]) -> bool
     ensures { λ r. ⌜ Decides r (now (word .entry) ≡ codes "stage") ⌝ }
 {

@@ -36,6 +36,7 @@ pub enum LineFault {
     NoStage,
     // no byte 10 follows
     Unended,
+    // the line is ended, and is not of its form
     Form(FormFault),
 }
 

@@ -1,11 +1,9 @@
 -- Numbers, read from the front of a text.
 use mathlib.Core.Path.{_≡_, refl, sym, _∙_, ap, subst}
-use mathlib.Core.Logic.{_⊎_, inl, inr}
-use mathlib.Core.List.{List, [], _∷_, _++_}
+use mathlib.Core.List.{List, _∷_, _++_}
 use Prim.Native.Nat.{ℕ, _+_, _-_, _*_, _≤_, _<_, _^_}
 use native.Mathlib.Omega.{arith}
 use lib.ListN.{length, take, drop, getD, length-append}
-use borrow.Author.Needs.{needs}
 use Rattle.std.specs.Text.{In}
 use Rattle.std.specs.Reads.{value}
 use Rattle.std.specs.Written.{decimal}
@@ -17,7 +15,7 @@ use Rattle.std.proofs.shelf.Digits.{value-more}
 use Rattle.std.proofs.shelf.Ways.{tells}
 use Rattle.std.specs.Text.{digitValue}
 use borrow.Author.Count.{below-more}
-use Rattle.forms.specs.Forms.{Ends, Numbered, OnlyNumber}
+use Rattle.forms.specs.Forms.{Numbered, OnlyNumber}
 
 abbrev pub AllDigits : List ℕ → Type 0
 AllDigits ds = (i : ℕ) → i < length ds → In 48 57 (getD ds i 0)
@@ -46,9 +44,6 @@ begun-digits text at n b i l =
 pub begun-low : (text : List ℕ) (at n : ℕ) → Begun text at n → at ≤ 7 → n < 10 ^ 7
 begun-low text at n b few =
     omega (arith, b .is, value-short own (take at text) 7 (begun-digits text at n b) (omega (arith, length-take-le at text (b .within))))
-
-pub begun-none : (text : List ℕ) → Begun text 0 0
-begun-none text = record { within = omega arith; few = omega arith; digit = λ i l. absurd (omega arith); is = refl }
 
 pub begun-more : (text : List ℕ) (at n d : ℕ) → Begun text at n → at < length text → at < 8 → In 48 57 (getD text at 0) → d ≡ getD text at 0 - 48 → Begun text (at + 1) (n * 10 + d)
 begun-more text at n d b l few here is = record {

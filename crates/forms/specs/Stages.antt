@@ -1,6 +1,6 @@
 -- The line of a stage. The text of each part is written before what follows it, x.
-use mathlib.Core.List.{List, _++_}
 use mathlib.Core.Path.{_≡_}
+use mathlib.Core.List.{List, _++_}
 use Prim.Native.Nat.{ℕ}
 use denote.Ref.{now}
 use lib.Chars.{codes}
@@ -32,15 +32,19 @@ abbrev pub core-word : CoreWord → List ℕ
 core-word word.Machine = codes "machine"
 core-word word.Oven = codes "oven"
 
--- a core: k places of p minutes, or every T minutes an oven of B places that bakes p minutes
+-- a core
 abbrev pub core-text : CoreForm → List ℕ → List ℕ
-core-text (Machine k p) x = codes "(machine " ++ two k p x
-core-text (Oven t b p) x = codes "(oven " ++ three t b p x
+core-text (Machine places minutes) x = codes "(machine " ++ two places minutes x
+core-text (Oven cycle places bake) x = codes "(oven " ++ three cycle places bake x
 
 -- a core whose numbers have at most 7 digits
 abbrev pub LowCore : CoreForm → Type 0
-LowCore (Machine k p) = Low k × Low p
-LowCore (Oven t b p) = Low t × Low b × Low p
+LowCore (Machine places minutes) = Low places × Low minutes
+LowCore (Oven cycle places bake) = Low cycle × Low places × Low bake
+
+-- the opening of a part that may be left out, as far as the space after its word
+abbrev pub piece-text : List ℕ → List ℕ → List ℕ
+piece-text name x = codes " (" ++ (name ++ (codes " " ++ x))
 
 -- the minutes of the move, if there is one
 abbrev pub travel-text : Option ℕ → List ℕ → List ℕ

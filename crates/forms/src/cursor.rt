@@ -1,6 +1,7 @@
 ghost use mathlib.Core.Path.{_≡_};
 ghost use mathlib.Core.List.{List, [], _∷_};
 ghost use Prim.Native.Nat.{ℕ};
+ghost use lib.Chars.{codes};
 ghost use Rattle.std.specs.Orderings.{When};
 ghost use Rattle.std.specs.Options.{Cases as BySome};
 ghost use Rattle.std.specs.Results.{Cases as ByOk};
@@ -101,7 +102,7 @@ impl<'f> Cursor<'f> {
 
     // The last bracket of a line, and nothing after it.
     pub fn finish(&mut self) -> Result<(), FormFault>
-        ensures { λ r. ⌜ ByOk r (λ _. left (now (self .entry)) ≡ 41 ∷ []) (λ e. (e ≡ FormFault.Layout) × (left (now (self .entry)) ≡ 41 ∷ [] → ⊥)) ⌝ }
+        ensures { λ r. ⌜ ByOk r (λ _. left (now (self .entry)) ≡ codes ")") (λ e. (e ≡ FormFault.Layout) × (left (now (self .entry)) ≡ codes ")" → ⊥)) ⌝ }
     {
         self.expect(')')?;
         self.end()

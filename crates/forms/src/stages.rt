@@ -1,13 +1,14 @@
 ghost use mathlib.Core.Path.{_≡_};
-ghost use mathlib.Core.List.{List, _∷_, _++_};
+ghost use mathlib.Core.List.{List, _++_};
 ghost use Prim.Native.Nat.{ℕ};
+ghost use lib.Chars.{codes};
 ghost use Rattle.std.specs.Orderings.{When, Decides};
 ghost use Rattle.std.specs.Options.{mapped, Cases as BySome};
 ghost use Rattle.std.specs.Results.{Cases as ByOk};
 ghost use Rattle.std.specs.declared.option.Option.{Option as OptionOf};
 ghost use Rattle.forms.specs.Forms.{Low, Word};
 ghost use Rattle.forms.specs.Reading.{left, Says, SaysNothing, Reads, ReadsTwo, ReadsThree};
-ghost use Rattle.forms.specs.Stages.{core-word, one, core-text, LowCore, travel-text, LowTravel, Moveless, week-text, WordWeek, stage-said, StageFits, stage-rest};
+ghost use Rattle.forms.specs.Stages.{core-word, one, core-text, LowCore, piece-text, travel-text, LowTravel, Moveless, week-text, WordWeek, stage-said, StageFits, stage-rest};
 ghost use Rattle.forms.specs.declared.stages.CoreWord.{CoreWord as CoreWordType};
 use crate::cursor::Cursor;
 use crate::cursor::FormFault;
@@ -15,9 +16,9 @@ use crate::cursor::FormFault;
 // How a stage works.
 #[derive(Clone, Copy, PartialEq, Eq, Debug)]
 pub enum CoreForm {
-    // each of the places works on one item, for that many minutes
+    // `(machine k p)`: k places, p minutes
     Machine { places: u32, minutes: u32 },
-    // once in a cycle, the places are filled and bake together
+    // `(oven T B p)`: a cycle of T minutes, B places, p minutes to bake
     Oven { cycle: u32, places: u32, bake: u32 },
 }
 
@@ -39,6 +40,7 @@ enum CoreWord {
     Oven,
 }
 
+// The core word that `word` is, if it is one.
 fn core_named(word: &[u8]) -> Option<CoreWord>
     ensures { λ r. ⌜ BySome r ((k : CoreWordType) → now (word .entry) ≡ core-word k → ⊥) (λ k. now (word .entry) ≡ core-word k) ⌝ }
 {
@@ -49,6 +51,7 @@ fn core_named(word: &[u8]) -> Option<CoreWord>
     }
 }
 
+// Whether `word` is `name`.
 fn same_word(word: &[u8], name: &[u8]) -> bool
     ensures { λ r. ⌜ Decides r (now (word .entry) ≡ now (name .entry)) ⌝ }
 {
@@ -59,8 +62,8 @@ impl<'f> Cursor<'f> {
     // Goes past a space, a bracket, the word `name` and a space, if they are next, and says whether they were.
     fn piece(&mut self, name: &[u8]) -> bool
         requires { ⌜ Word (now name) ⌝ }
-        ensures { λ r. ⌜ When r (left (now (self .entry)) ≡ 32 ∷ (40 ∷ (now (name .entry) ++ (32 ∷ left (now (self .exit))))))
-            ((left (now (self .exit)) ≡ left (now (self .entry))) × ((x : List ℕ) → left (now (self .entry)) ≡ 32 ∷ (40 ∷ (now (name .entry) ++ (32 ∷ x))) → ⊥)) ⌝ }
+        ensures { λ r. ⌜ When r (left (now (self .entry)) ≡ piece-text (now (name .entry)) (left (now (self .exit))))
+            ((left (now (self .exit)) ≡ left (now (self .entry))) × ((x : List ℕ) → left (now (self .entry)) ≡ piece-text (now (name .entry)) x → ⊥)) ⌝ }
     {
         let mut ahead = *self;
         if !ahead.accept(' ') || !ahead.accept('(') {
@@ -131,7 +134,7 @@ impl<'f> Cursor<'f> {
         }
     }
 
-    // The minutes of `(move t)`, if that is next.
+    // The minutes of `(move t)`, if that is next. No second move may follow.
     fn travel(&mut self) -> Result<Option<u32>, FormFault>
         ensures { λ r. ⌜ ByOk r
             (λ t. LowTravel t × (left (now (self .entry)) ≡ travel-text t (left (now (self .exit))))
@@ -145,12 +148,12 @@ impl<'f> Cursor<'f> {
         Ok(Some(minutes))
     }
 
-    // The word of `(week NAME)`, if that is next.
+    // The word of `(week NAME)`, if that is next. A bracket follows.
     fn week(&mut self) -> Result<Option<&'f [u8]>, FormFault>
         ensures { λ r. ⌜ ByOk r
             (λ w. WordWeek (mapped now w) × (left (now (self .entry)) ≡ week-text (mapped now w) (left (now (self .exit))))
-            × ((u : OptionOf (List ℕ)) (x : List ℕ) → WordWeek u → left (now (self .entry)) ≡ week-text u (41 ∷ x) → (mapped now w ≡ u) × (left (now (self .exit)) ≡ 41 ∷ x)))
-            (λ _. (u : OptionOf (List ℕ)) (x : List ℕ) → WordWeek u → left (now (self .entry)) ≡ week-text u (41 ∷ x) → ⊥) ⌝ }
+            × ((u : OptionOf (List ℕ)) (x : List ℕ) → WordWeek u → left (now (self .entry)) ≡ week-text u (codes ")" ++ x) → (mapped now w ≡ u) × (left (now (self .exit)) ≡ codes ")" ++ x)))
+            (λ _. (u : OptionOf (List ℕ)) (x : List ℕ) → WordWeek u → left (now (self .entry)) ≡ week-text u (codes ")" ++ x) → ⊥) ⌝ }
     {
         if !self.piece(b"week") {
             return Ok(None);

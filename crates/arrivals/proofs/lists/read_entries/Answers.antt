@@ -1,6 +1,5 @@
 use borrow.Author.Needs.{needs}
 use mathlib.Core.Path.{sym, ap, subst}
-use native.Mathlib.Omega.{arith}
 use Rattle.std.proofs.Told.{chosen}
 use Rattle.std.proofs.shelf.Lists.{nil-from-length}
 use Rattle.std.specs.Results.{isOk}

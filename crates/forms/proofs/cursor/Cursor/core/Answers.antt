@@ -1,5 +1,4 @@
 use borrow.Author.Needs.{needs}
-use native.Mathlib.Omega.{arith}
 use lib.Chars.{codes}
 use Rattle.forms.proofs.Spelled.{unspelled}
 use Rattle.forms.specs.declared.stages.CoreWord.the-variants.{Machine, Oven}
