@@ -4,6 +4,7 @@ pub mod layers;
 pub mod loading;
 pub mod machines;
 pub mod moves;
+pub mod numbers;
 pub mod ovens;
 pub mod piles;
 mod places;
