@@ -16,6 +16,7 @@ use forms::stages::StageForm;
 pub enum Entry {
     // a part arrives at that minute
     Arrive(u32),
+    // the station is made fresh
     Fresh,
 }
 
