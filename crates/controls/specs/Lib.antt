@@ -1,0 +1,12 @@
+pub mod Lists
+pub mod Events
+pub mod Control
+pub mod Times
+pub mod Filling
+pub mod Claims
+pub mod Stages
+pub mod Base
+pub mod Kanban
+pub mod General
+pub mod Extended
+pub mod Evolution
