@@ -1,3 +1,4 @@
 pub mod Forms
 pub mod Stages
 pub mod Reading
+pub mod Faults

@@ -5,6 +5,7 @@ ghost use lib.Chars.{codes};
 ghost use Rattle.std.specs.Orderings.{When};
 ghost use Rattle.std.specs.Options.{Cases as BySome};
 ghost use Rattle.std.specs.Results.{Cases as ByOk};
+ghost use Rattle.forms.specs.Faults.{form-reason};
 ghost use Rattle.forms.specs.Reading.{left};
 ghost use Rattle.forms.specs.Forms.{Numbered, OnlyNumber, Numberless, Worded, OnlyWord, Wordless, Lined, OnlyLine, Lineless};
 use crate::lines;
@@ -19,6 +20,20 @@ pub enum FormFault {
     UnknownWord,
     // a bracket or a space is missing, or something follows the end
     Layout,
+}
+
+impl FormFault {
+    // The reason in words.
+    pub fn reason(self) -> &'static str
+        ensures { λ r. ⌜ now r ≡ form-reason self ⌝ }
+    {
+        match self {
+            FormFault::NotANumber => "not a number",
+            FormFault::NotAWord => "not a word",
+            FormFault::UnknownWord => "unknown word",
+            FormFault::Layout => "not of the form",
+        }
+    }
 }
 
 // Reads a text from its front.

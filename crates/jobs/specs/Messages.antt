@@ -5,8 +5,7 @@ use Rattle.std.specs.Written.{decimal}
 use Rattle.calendar.specs.Settings.{told, piece-word}
 use Rattle.calendar.specs.declared.settings.SettingFault.{SettingFault}
 use Rattle.calendar.specs.declared.settings.SettingFault.the-variants.{OffRange, ShiftOrder}
-use Rattle.forms.specs.declared.cursor.FormFault.{FormFault}
-use Rattle.forms.specs.declared.cursor.FormFault.the-variants.{NotANumber, NotAWord, UnknownWord, Layout}
+use Rattle.forms.specs.Faults.{form-reason}
 use Rattle.arrivals.specs.declared.lists.LineFault.{LineFault}
 use Rattle.arrivals.specs.declared.lists.LineFault.the-variants.{NoStage, Unended, Form}
 use Rattle.arrivals.specs.declared.lists.ListFault.{ListFault}
@@ -34,12 +33,6 @@ answer-line (Refused arrival fault) =
 answer-line Freshened = codes "fresh"
 
 -- Why a line is none of an arrival list, in words.
-abbrev pub form-reason : FormFault → List ℕ
-form-reason NotANumber = codes "not a number"
-form-reason NotAWord = codes "not a word"
-form-reason UnknownWord = codes "unknown word"
-form-reason Layout = codes "not of the form"
-
 abbrev pub line-reason : LineFault → List ℕ
 line-reason NoStage = codes "no stage"
 line-reason Unended = codes "no end of line"

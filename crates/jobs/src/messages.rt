@@ -1,13 +1,12 @@
 ghost use mathlib.Core.Path.{_≡_};
 ghost use Rattle.std.specs.declared.option.Option.the-variants.{Some};
-ghost use Rattle.jobs.specs.Messages.{load-reason, answer-line, form-reason, line-reason, setting-reason, list-fault-line, stage-fault-line, fault-line};
+ghost use Rattle.jobs.specs.Messages.{load-reason, answer-line, line-reason, setting-reason, list-fault-line, stage-fault-line, fault-line};
 use crate::answers::Answer;
 use crate::making::StageFault;
 use crate::whole::JobFault;
 use arrivals::lists::LineFault;
 use arrivals::lists::ListFault;
 use calendar::settings::SettingFault;
-use forms::cursor::FormFault;
 use stations::loading::LoadFault;
 use std::fmt;
 
@@ -40,18 +39,6 @@ pub impl fmt::Display for Answer as AnswerDisplay {
     }
 }
 
-// Why a line is not of its form, in words.
-fn form_reason(fault: FormFault) -> &'static str
-    ensures { λ r. ⌜ now r ≡ form-reason fault ⌝ }
-{
-    match fault {
-        FormFault::NotANumber => "not a number",
-        FormFault::NotAWord => "not a word",
-        FormFault::UnknownWord => "unknown word",
-        FormFault::Layout => "not of the form",
-    }
-}
-
 // Why a line is none of an arrival list, in words.
 fn line_reason(fault: LineFault) -> &'static str
     ensures { λ r. ⌜ now r ≡ line-reason fault ⌝ }
@@ -59,7 +46,7 @@ fn line_reason(fault: LineFault) -> &'static str
     match fault {
         LineFault::NoStage => "no stage",
         LineFault::Unended => "no end of line",
-        LineFault::Form(form) => form_reason(form),
+        LineFault::Form(form) => form.reason(),
     }
 }
 

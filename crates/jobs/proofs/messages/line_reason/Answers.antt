@@ -9,4 +9,4 @@ pub returns-in-Unended : need.returns-in-Unended
 returns-in-Unended c = sym (ap line-reason (c .in-Unended .is))
 
 pub returns-in-Form : need.returns-in-Form
-returns-in-Form c = c .form-reason .ensures ∙ sym (ap line-reason (c .in-Form .is))
+returns-in-Form c = c .reason .ensures ∙ sym (ap line-reason (c .in-Form .is))

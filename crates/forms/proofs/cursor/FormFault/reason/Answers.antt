@@ -1,6 +1,6 @@
 use mathlib.Core.Path.{sym, ap}
-use Rattle.jobs.specs.Messages.{form-reason}
-use Rattle.jobs.proofs.messages.form_reason.Needs as need
+use Rattle.forms.specs.Faults.{form-reason}
+use Rattle.forms.proofs.cursor.FormFault.reason.Needs as need
 
 pub returns-in-NotANumber : need.returns-in-NotANumber
 returns-in-NotANumber c = sym (ap form-reason (c .in-NotANumber .is))
