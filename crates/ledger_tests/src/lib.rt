@@ -1,0 +1,3 @@
+// Tests of the book and the board at their limits.
+#[cfg(test)]
+mod limits;
