@@ -17,7 +17,7 @@ use Rattle.arrivals.specs.declared.lines.Entry.the-variants.{Arrive, Fresh}
 use Rattle.stations.specs.Load.{number, refusal, Loaded}
 use Rattle.stations.specs.Rule.{Rule, Meaning, Rising, Lawful, before, freshened}
 use Rattle.stations.proofs.Layering.{granted}
-use Rattle.jobs.specs.Run.{Step, Answered}
+use Rattle.jobs.specs.Run.{Step, Worked, Answered}
 use Rattle.jobs.specs.declared.answers.Answer.{Answer}
 use Rattle.jobs.specs.declared.answers.Answer.the-variants.{Leaves, Refused, Freshened}
 
@@ -156,6 +156,13 @@ keeps-more rule entries i answers answers′ m m′ d x L h t p k =
       ),
     )
 
+-- past the last entry there is none
+none-after : (es : List Entry) (i : ℕ) → length es ≤ i → drop i es ≡ []
+none-after [] zero h = refl
+none-after [] (suc i) h = refl
+none-after (e ∷ es) zero h = absurd (omega arith)
+none-after (e ∷ es) (suc i) h = none-after es i (omega arith)
+
 pub keeps-all :
     (rule : Rule) (entries : List Entry) (i : ℕ) (answers : List Answer) (m : Meaning) → length entries ≤ i → Keeps rule entries i answers m
     → Answered rule [] None entries answers
@@ -163,9 +170,31 @@ keeps-all rule entries i answers m h k =
     let P : List Entry → Type 0 = λ es. Answered rule (k .0) (k .1 .0) es [] in
     let Q : List Answer → Type 0 = λ xs. Answered rule [] None entries xs in
     subst Q (append-nil answers) (k .1 .1 .1 [] (subst P (sym (none-after entries i h)) tt))
-  where
-    none-after : (es : List Entry) (i : ℕ) → length es ≤ i → drop i es ≡ []
-    none-after [] zero h = refl
-    none-after [] (suc i) h = refl
-    none-after (e ∷ es) zero h = absurd (omega arith)
-    none-after (e ∷ es) (suc i) h = none-after es i (omega arith)
+
+-- After i entries: whatever the others make of the station, all of them make of the one at the beginning.
+abbrev pub Goes : Meaning → List Entry → ℕ → List Answer → Meaning → Type 0
+Goes start entries i answers m =
+    (rest : List Answer) (m′ : Meaning) → Worked m (drop i entries) rest m′ → Worked start entries (answers ++ rest) m′
+
+pub goes-none : (entries : List Entry) (answers : List Answer) (m : Meaning) → answers ≡ [] → Goes m entries 0 answers m
+goes-none entries answers m none rest m′ w =
+    let Q : List Answer → Type 0 = λ xs. Worked m entries xs m′ in subst Q (ap (λ (l : List Answer). l ++ rest) (sym none)) w
+
+pub goes-more :
+    (start : Meaning) (entries : List Entry) (i : ℕ) (answers answers′ : List Answer) (m n : Meaning) (d : Entry) (x : Answer)
+    → i < length entries → Step m (getD entries i d) x n → answers′ ≡ answers ++ (x ∷ []) → Goes start entries i answers m
+    → Goes start entries (i + 1) answers′ n
+goes-more start entries i answers answers′ m n d x h t p k rest m′ w =
+    let next : drop i entries ≡ getD entries i d ∷ drop (i + 1) entries = rw (add-one, drop-cons entries i d) in
+    let P : List Entry → Type 0 = λ es. Worked m es (x ∷ rest) m′ in
+    let Q : List Answer → Type 0 = λ xs. Worked start entries xs m′ in
+    subst Q (sym (append-assoc answers (x ∷ []) rest) ∙ ap (λ (l : List Answer). l ++ rest) (sym p))
+    (k (x ∷ rest) m′ (subst P (sym next) (n, (t, w))))
+
+pub goes-all :
+    (start : Meaning) (entries : List Entry) (i : ℕ) (answers : List Answer) (m : Meaning) → length entries ≤ i
+    → Goes start entries i answers m → Worked start entries answers m
+goes-all start entries i answers m h k =
+    let P : List Entry → Type 0 = λ es. Worked m es [] m in
+    let Q : List Answer → Type 0 = λ xs. Worked start entries xs m in
+    subst Q (append-nil answers) (k [] m (subst P (sym (none-after entries i h)) refl))

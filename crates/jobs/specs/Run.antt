@@ -20,6 +20,13 @@ Step m Fresh (Leaves b d) m′ = ⊥
 Step m Fresh (Refused b e) m′ = ⊥
 Step m Fresh Freshened m′ = m′ ≡ freshened m
 
+-- What the entries of a list, done one after the other, make of a station that means m.
+abbrev pub Worked : Meaning → List Entry → List Answer → Meaning → Type 0
+Worked m [] [] m′ = m′ ≡ m
+Worked m [] (x ∷ xs) m′ = ⊥
+Worked m (e ∷ es) [] m′ = ⊥
+Worked m (e ∷ es) (x ∷ xs) m′ = (n : Meaning) × (Step m e x n × Worked n es xs m′)
+
 -- How the entries of a list are answered by a station with that fresh rule, which since it was fresh has granted the arrivals
 -- of granted, the last of them last. An arrival past the end of the clock or before the last is refused; any other leaves
 -- as the fresh rule has it for the arrivals granted and this one. After fresh no arrival has been granted.

@@ -2,7 +2,8 @@ ghost use mathlib.Core.List.{[]};
 ghost use Rattle.std.specs.Of.Vec.{vec-items};
 ghost use Rattle.std.specs.Vec.{made};
 ghost use Rattle.std.specs.declared.option.Option.the-variants.{None};
-ghost use Rattle.jobs.specs.Run.{Step, Answered};
+ghost use Rattle.stations.specs.Rule.{freshened};
+ghost use Rattle.jobs.specs.Run.{Step, Worked, Answered};
 use crate::answers::Answer;
 use arrivals::lines::Entry;
 use stations::loading::Station;
@@ -26,13 +27,14 @@ fn answer<S: Station>(station: &mut S, entry: Entry) -> Answer
 }
 
 // Makes the station fresh, does what each entry says and answers it. Each part that is taken leaves as the station's fresh
-// rule has it for the arrivals that were granted since the station was fresh.
+// rule has it for the arrivals that were granted since the station was fresh. The station is left as the last entry leaves it.
 pub fn work_through<S: Station>(
     heap: Global,
     station: &mut S,
     entries: &[Entry],
 ) -> Result<Vec<Answer>, AllocError>
-    ensures { λ r. ⌜ made r (λ v. Answered (S·Station .meaning (now (station .entry)) .fresh) [] None (now (entries .entry)) (vec-items v)) ⌝ }
+    ensures answered { λ r. ⌜ made r (λ v. Answered (S·Station .meaning (now (station .entry)) .fresh) [] None (now (entries .entry)) (vec-items v)) ⌝ }
+    ensures left { λ r. ⌜ made r (λ v. Worked (freshened (S·Station .meaning (now (station .entry)))) (now (entries .entry)) (vec-items v) (S·Station .meaning (now (station .exit)))) ⌝ }
 {
     station.fresh();
     let mut answers = Vec::new(heap);

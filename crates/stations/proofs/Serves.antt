@@ -121,7 +121,7 @@ serves-fresh k k′ w free h same e =
 -- one load: the part may start at e, starts at s, leaves at d, and its place is taken
 pub serves :
     (k k′ : ℕ) (w : Pace) (free free′ : List ℕ) (last : Option ℕ) (a e u v s d : ℕ) → 1 ≤ k → k ≤ 16 → k′ ≡ k
-    → None ≡ refusal (before last) a → (a ≤ E → e ≡ w .from a) → u ≡ w .turn → v ≡ w .stay → s ≡ max e (getD free (k - 1) 0)
+    → None ≡ refusal (before last) a → e ≡ w .from (cut a) → u ≡ w .turn → v ≡ w .stay → s ≡ max e (getD free (k - 1) 0)
     → d ≡ cut (s + v) → ((i : ℕ) → i < 16 → getD free′ i 0 ≡ getD (cut (s + u) ∷ free) i 0)
     → Loaded (serving k w free last) a (Ok d) (serving k′ w free′ (Some a))
 serves k k′ w free free′ last a e u v s d h fit same ok from turn stay es ed f =
@@ -136,8 +136,11 @@ serves k k′ w free free′ last a e u v s d h fit same ok from turn stay es ed
           ∙ ap (λ (l : List ℕ). d ∷ l) (served-agree k w (cut (s + w .turn) ∷ free) free′ arrivals h (λ i l. sym (taken i (omega arith)))),
     )
   where
+    on-clock : cut a ≡ a
+    on-clock = omega (arith, granted (before last) a (sym ok) .0)
+
     starts : s ≡ start k w free a
-    starts = es ∙ ap (λ n. max n (getD free (k - 1) 0)) (from (granted (before last) a (sym ok) .0))
+    starts = es ∙ ap (λ n. max n (getD free (k - 1) 0)) (from ∙ ap (w .from) on-clock)
 
     leaves-at : d ≡ cut (s + w .stay)
     leaves-at = ed ∙ ap (λ n. cut (s + n)) stay

@@ -11,6 +11,7 @@ ghost use Rattle.stations.specs.ServingLaw.{LeavesInTurn};
 use crate::places::Places;
 use crate::served::Served;
 use crate::served::Work;
+use calendar::clock::END;
 use calendar::settings::Piece;
 use calendar::settings::SettingFault;
 use calendar::settings::on_range;
@@ -27,7 +28,7 @@ pub impl Work for MachineWork as MachineWorkWork {
     ghost pace = { λ w. machine (w .minutes) };
 
     fn earliest(&self, arrival: u32) -> u32 {
-        arrival
+        arrival.min(END)
     }
 
     fn turn(&self) -> u32 {

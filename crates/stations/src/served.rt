@@ -1,9 +1,8 @@
 ghost use mathlib.Core.Path.{_≡_};
 ghost use mathlib.Core.List.{[]};
-ghost use Prim.Native.Nat.{_≤_};
 ghost use denote.Ref.{now};
 ghost use Rattle.std.specs.declared.option.Option.the-variants.{None};
-ghost use Rattle.calendar.specs.Clock.{E};
+ghost use Rattle.calendar.specs.Clock.{cut};
 ghost use Rattle.stations.specs.Serving.{Pace, Steady, serving};
 use crate::loading::LoadFault;
 use crate::loading::Station;
@@ -17,9 +16,9 @@ pub trait Work {
 
     law steady: { (w : Self) → Steady (pace w) };
 
-    // The first minute at which a part that arrives at `arrival` may start. Nothing is said of an arrival past the clock.
+    // The first minute at which a part that arrives at `arrival` may start. An arrival past the clock counts as its end.
     fn earliest(&self, arrival: u32) -> u32
-        ensures { λ r. ⌜ (arrival ≤ E → r ≡ pace (now (self .entry)) .from arrival) ⌝ };
+        ensures { λ r. ⌜ r ≡ pace (now (self .entry)) .from (cut arrival) ⌝ };
 
     // How long after its start a part's place is free again.
     fn turn(&self) -> u32

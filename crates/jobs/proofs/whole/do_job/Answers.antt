@@ -29,6 +29,6 @@ returns c =
         lawful = made .0;
         shifts = made .1 .0;
         named = made .1 .1 .0;
-        answered = answered-by _ _ _ _ _ (made .1 .1 .1) (c .as-slice .ensures .value) (c .in-Continue-answers .ensures tt);
+        answered = answered-by _ _ _ _ _ (made .1 .1 .1) (c .as-slice .ensures .value) (c .in-Continue-answers .ensures tt .answered);
       };
     }
