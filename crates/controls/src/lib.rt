@@ -1,4 +1,6 @@
 // Controls: what the cards of a line let each event wait for, and what follows for the times of every line.
+#![tactic(auto)]
+
 pub mod base;
 pub mod control;
 pub mod events;

@@ -1,4 +1,6 @@
 // Tells for each part of an arrival list when it leaves the station, or why it is refused.
+#![tactic(auto)]
+
 use anyhow::anyhow;
 use forms::stages::{CoreForm, StageForm};
 use jobs::whole::{Job, do_job};

@@ -1,3 +1,5 @@
+#![tactic(auto)]
+
 pub mod cursor;
 mod lines;
 mod numbers;

@@ -1,4 +1,6 @@
 // A job: an arrival list that is worked through at its station.
+#![tactic(auto)]
+
 pub mod answers;
 pub mod making;
 pub mod messages;

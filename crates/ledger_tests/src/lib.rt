@@ -1,3 +1,5 @@
 // Tests of the book and the board at their limits.
+#![tactic(auto)]
+
 #[cfg(test)]
 mod limits;

@@ -1,4 +1,6 @@
 // Lines: a row of stations under a control, and the run of the booked parts.
+#![tactic(auto)]
+
 mod asking;
 pub mod faults;
 pub mod line;

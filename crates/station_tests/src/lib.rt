@@ -1,4 +1,6 @@
 // Tests of stations, weeks, rows and whole jobs on worked examples.
+#![tactic(auto)]
+
 #[cfg(test)]
 mod jobs_told;
 #[cfg(test)]

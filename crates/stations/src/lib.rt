@@ -1,4 +1,6 @@
 // Stations: each is loaded with the arrival minutes of its parts and answers their departure minutes.
+#![tactic(auto)]
+
 pub mod cores;
 pub mod layers;
 pub mod loading;

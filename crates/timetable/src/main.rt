@@ -1,4 +1,6 @@
 // Runs a line of the sample stations under a chosen control, and tells each step and the times of every part.
+#![tactic(auto)]
+
 mod sample;
 mod tables;
 

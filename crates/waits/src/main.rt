@@ -1,4 +1,6 @@
 // Tells for a control, a number of stages and counts whether they are lawful, and what every event of a part waits for.
+#![tactic(auto)]
+
 mod words;
 
 use anyhow::anyhow;

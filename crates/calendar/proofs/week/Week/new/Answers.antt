@@ -19,6 +19,6 @@ invariant-of-result c =
 pub returns : goal.returns
 returns c =
     let ss = c.args.shifts.now in (
-      refused_order ss None c.in-ok-count-in-range.ensures c.in-ok-all-in-week.ensures c.in-ok-all-in-order.ensures,
-      table_holds ss c.copy-from-slice.new.self _ c.copy-from-slice.ensures.after,
+      refused_order ss None c.in_ok-count_in_range.ensures c.in_ok-all_in_week.ensures c.in_ok-all_in_order.ensures,
+      table_holds ss c.copy_from_slice.new.self _ c.copy_from_slice.ensures.after,
     )

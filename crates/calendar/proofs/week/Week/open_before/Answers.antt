@@ -18,5 +18,5 @@ overflow-add-result c =
 pub returns : goal.returns
 returns c =
     let w = c.args.self.now in
-    let e = ap (λ z. c.args.time / 10080 * z) c.open-minutes.ensures.value in
+    let e = ap (λ z. c.args.time / 10080 * z) c.open_minutes.ensures.value in
     omega (arith, worked_counts (shifts_of w) c.args.time (week_ordered w))

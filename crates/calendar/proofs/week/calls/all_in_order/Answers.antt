@@ -23,7 +23,7 @@ loop-shift-preserved c = (
   omega arith,
   c.loop-shift.invariant.1
       ∙ unordered_step c.args.shifts.now c.loop-shift.shift-index _ c.loop-shift.low none None c.loop-shift-test.true c.loop-shift.invariant.0
-      c.in-ok-shift-in-order.ensures,
+      c.in_ok-shift_in_order.ensures,
 )
 
 pub returns : goal.returns

@@ -20,7 +20,7 @@ loop-shift-preserved c = (
   omega arith,
   c.loop-shift.invariant.1
       ∙ past_step c.args.shifts.now c.loop-shift.shift-index _ none None c.loop-shift-test.true c.loop-shift.invariant.0
-      c.in-ok-shift-in-week.ensures,
+      c.in_ok-shift_in_week.ensures,
 )
 
 pub returns : goal.returns
