@@ -4,17 +4,17 @@ use Rattle.calendar.proofs.Refusing.{lawful_ordered, refused_order, count_fits}
 use Rattle.calendar.proofs.Weeks.{in_order, opened_whole, total_some, table_holds}
 use Rattle.calendar.proofs.week.Week.new.Goals as goal
 
-pub opened-before-requires : goal.opened-before-requires
-opened-before-requires c = lawful_ordered c.args.shifts.now c.in-ok-all-in-week.ensures c.in-ok-all-in-order.ensures
+pub opened_before-requires : goal.opened_before-requires
+opened_before-requires c = lawful_ordered c.args.shifts.now c.in_ok-all_in_week.ensures c.in_ok-all_in_order.ensures
 
-pub invariant-of-result : goal.invariant-of-result
-invariant-of-result c =
+pub invariant_of-result : goal.invariant_of-result
+invariant_of-result c =
     let ss = c.args.shifts.now in
-    let up : ordered 0 ss ≡ true = lawful_ordered ss c.in-ok-all-in-week.ensures c.in-ok-all-in-order.ensures in
-    let n = count_fits _ c.in-ok-count-in-range.ensures in
-    let t = table_holds ss c.copy-from-slice.new.self _ c.copy-from-slice.ensures.after in
-    let all = c.opened-before.ensures ∙ opened_whole ss (in_order 0 ss up) in
-    (n.1, (ap (ordered 0) t ∙ up, (all ∙ sym (ap total t), (omega (arith, all, total_some ss (in_order 0 ss up) n.0), tt))))
+    let up : ordered 0 ss ≡ true = lawful_ordered ss c.in_ok-all_in_week.ensures c.in_ok-all_in_order.ensures in
+    let n = count_fits _ c.in_ok-count_in_range.ensures in
+    let t = table_holds ss c.copy_from_slice.new.self _ c.copy_from_slice.ensures.after in
+    let all = c.opened_before.ensures ∙ opened_whole ss (in_order 0 ss up) in
+    record { fit = n.1; rising = ap (ordered 0) t ∙ up; sum = all ∙ sym (ap total t); opens = omega (arith, all, total_some ss (in_order 0 ss up) n.0) }
 
 pub returns : goal.returns
 returns c =

@@ -7,16 +7,16 @@ use Rattle.calendar.proofs.week.calls.all_in_order.Goals as goal
 abbrev none : Shift
 none = record { begin = 0; end = 0 }
 
-pub returns-in-err-shift-in-order : goal.returns-in-err-shift-in-order
-returns-in-err-shift-in-order c =
-    let e = c.in-err-shift-in-order.field-0.0 in
-    tells _ e c.from-residual.ensures.1
+pub returns-in_err-shift_in_order : goal.returns-in_err-shift_in_order
+returns-in_err-shift_in_order c =
+    let e = c.in_err-shift_in_order.field-0.0 in
+    tells _ e c.from_residual.ensures.1
     ∙ sym (c.loop-shift.invariant.1
     ∙ unordered_step c.args.shifts.now c.loop-shift.shift-index _ c.loop-shift.low none (Some (told e)) c.loop-shift-test.true c.loop-shift.invariant.0
-    c.in-err-shift-in-order.ensures)
+    c.in_err-shift_in_order.ensures)
 
-pub overflow-add-low : goal.overflow-add-low
-overflow-add-low c = omega (arith, past_none 1 c.args.shifts.now c.loop-shift.shift-index none c.requires.1 c.loop-shift-test.true)
+pub overflow_add-low : goal.overflow_add-low
+overflow_add-low c = omega (arith, past_none 1 c.args.shifts.now c.loop-shift.shift-index none c.requires.1 c.loop-shift-test.true)
 
 pub loop-shift-preserved : goal.loop-shift-preserved
 loop-shift-preserved c = (

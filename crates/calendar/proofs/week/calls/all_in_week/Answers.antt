@@ -7,13 +7,13 @@ use Rattle.calendar.proofs.week.calls.all_in_week.Goals as goal
 abbrev none : Shift
 none = record { begin = 0; end = 0 }
 
-pub returns-in-err-shift-in-week : goal.returns-in-err-shift-in-week
-returns-in-err-shift-in-week c =
-    let e = c.in-err-shift-in-week.field-0.0 in
-    tells _ e c.from-residual.ensures.1
+pub returns-in_err-shift_in_week : goal.returns-in_err-shift_in_week
+returns-in_err-shift_in_week c =
+    let e = c.in_err-shift_in_week.field-0.0 in
+    tells _ e c.from_residual.ensures.1
     ∙ sym (c.loop-shift.invariant.1
     ∙ past_step c.args.shifts.now c.loop-shift.shift-index _ none (Some (told e)) c.loop-shift-test.true c.loop-shift.invariant.0
-    c.in-err-shift-in-week.ensures)
+    c.in_err-shift_in_week.ensures)
 
 pub loop-shift-preserved : goal.loop-shift-preserved
 loop-shift-preserved c = (

@@ -6,13 +6,13 @@ use Rattle.calendar.proofs.week.calls.minute_by.Goals as goal
 abbrev none : Shift
 none = record { begin = 0; end = 0 }
 
-pub overflow-sub-length : goal.overflow-sub-length
-overflow-sub-length c =
+pub overflow_sub-length : goal.overflow_sub-length
+overflow_sub-length c =
     let f = shift_fits 0 c.args.shifts.now c.loop-shift.shift-index none (in_order 0 c.args.shifts.now c.requires.0) c.loop-shift-test.true in
     omega arith
 
-pub overflow-add-result : goal.overflow-add-result
-overflow-add-result c =
+pub overflow_add-result : goal.overflow_add-result
+overflow_add-result c =
     let f = shift_fits 0 c.args.shifts.now c.loop-shift.shift-index none (in_order 0 c.args.shifts.now c.requires.0) c.loop-shift-test.true in
     omega arith
 

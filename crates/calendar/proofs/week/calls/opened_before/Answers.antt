@@ -7,8 +7,8 @@ use Rattle.calendar.proofs.week.calls.opened_before.Goals as goal
 abbrev none : Shift
 none = record { begin = 0; end = 0 }
 
-pub overflow-add-sum : goal.overflow-add-sum
-overflow-add-sum c =
+pub overflow_add-sum : goal.overflow_add-sum
+overflow_add-sum c =
     let e = opened_step c.args.shifts.now c.loop-shift.shift-index c.args.minute none c.loop-shift-test.true in
     let f = opened_fits c.args.shifts.now c.args.minute (in_order 0 c.args.shifts.now c.requires) in
     omega arith
