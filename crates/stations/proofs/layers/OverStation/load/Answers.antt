@@ -6,9 +6,9 @@ pub returns : goal.returns
 returns g c =
     rw c.up.ensures
     (layer_loads _ (g.met.P.Through.layer c.args.self.now.by) _ (g.S.Station.meaning c.args.self.now.below) _ _ _ _
-    (sym c.in-ok-admit.ensures) c.down.ensures c.in-ok-departure.ensures)
+    (sym c.in_ok-admit.ensures) c.down.ensures c.in_ok-departure.ensures)
 
-pub returns-in-err-departure : goal.returns-in-err-departure
-returns-in-err-departure g c =
-    layer_passes _ (g.met.P.Through.layer c.args.self.now.by) _ _ _ _ _ _ _ (sym c.in-ok-admit.ensures) c.down.ensures
-    c.in-err-departure.ensures c.from-residual-in-err-departure.ensures.1
+pub returns-in_err-departure : goal.returns-in_err-departure
+returns-in_err-departure g c =
+    layer_passes _ (g.met.P.Through.layer c.args.self.now.by) _ _ _ _ _ _ _ (sym c.in_ok-admit.ensures) c.down.ensures
+    c.in_err-departure.ensures c.from_residual-in_err-departure.ensures.1

@@ -6,4 +6,4 @@ pub returns : goal.returns
 returns c =
     let turns : 1 ≤ c.args.cycle = search rules in
     let some : 1 ≤ c.args.places = search rules in
-    (search rules, (c.with-places.ensures, starts_in_turn c.args.cycle c.args.places c.args.bake turns some))
+    (search rules, (c.with_places.ensures, starts_in_turn c.args.cycle c.args.places c.args.bake turns some))

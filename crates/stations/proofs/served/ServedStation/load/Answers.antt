@@ -5,5 +5,5 @@ pub returns : goal.returns
 returns g c =
     let s = c.args.self.now in
     serves s.places.count _ (g.W.Work.pace s.work) s.places.free c.take-start.new.self.free _ _ _ _ _ c.take-start.result _
-    s.places.some s.places.fit c.take-start.ensures.count c.in-ok-admit.ensures c.earliest.ensures c.turn.ensures
-    c.stay.ensures c.take-start.ensures.start c.later-by.ensures c.take-start.ensures.taken
+    s.places.some s.places.fit c.take-start.ensures.count c.in_ok-admit.ensures c.earliest.ensures c.turn.ensures
+    c.stay.ensures c.take-start.ensures.start c.later_by.ensures c.take-start.ensures.taken
