@@ -18,13 +18,13 @@ returns-then-number-eq0 g c = (
 pub returns-in-Ok : goal.returns-in-Ok
 returns-in-Ok g c =
     banked_loads g.S.Station.meaning (vec_items c.args.self.now.stations) c.args.stage.0 c.args.arrival
-    c.index-mut.result.now c.load.new.self (Ok c.in-Ok.departure) (omega arith) (omega arith) (omega arith)
-    c.index-mut.ensures.value c.in-Ok.ensures
+    c.index_mut.result.now c.load.new.self (Ok c.in-Ok.departure) (omega arith) (omega arith) (omega arith)
+    c.index_mut.ensures.value c.in-Ok.ensures
 
 pub returns-in-Err : goal.returns-in-Err
 returns-in-Err g c = (
   refl,
   banked_loads g.S.Station.meaning (vec_items c.args.self.now.stations) c.args.stage.0 c.args.arrival
-      c.index-mut.result.now c.load.new.self (Err c.in-Err.fault) (omega arith) (omega arith) (omega arith)
-      c.index-mut.ensures.value c.in-Err.ensures,
+      c.index_mut.result.now c.load.new.self (Err c.in-Err.fault) (omega arith) (omega arith) (omega arith)
+      c.index_mut.ensures.value c.in-Err.ensures,
 )
