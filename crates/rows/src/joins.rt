@@ -46,6 +46,7 @@ impl<A: Row, B: Row> Row for Joined<A, B> {
         }
     }
 
+    #[tactic(auto, using(crate::specs::Numbering::joined_fresh))]
     fn fresh(&mut self) {
         self.first.fresh();
         self.second.fresh();

@@ -5,7 +5,7 @@ ghost use Rattle.stations.specs.ByHand.{MachineByHand};
 ghost use Rattle.stations.specs.Pieces.{machine_settings};
 ghost use Rattle.stations.specs.Serving.{serving, served, machine};
 ghost use Rattle.stations.specs.ServingLaw.{LeavesInTurn};
-ghost use Rattle.std.proofs.Common.{rules, arith};
+ghost use Rattle.stations.specs.Serves.{machine_steady};
 
 use crate::places::Places;
 use crate::served::{Served, Work};
@@ -23,7 +23,7 @@ pub struct MachineWork {
 impl Work for MachineWork {
     ghost pace = { λ w. machine w.minutes };
 
-    ghost steady = { first_of (Prim.search rules, Prim.grind (arith, Self.row.coded.inj)) };
+    ghost steady = { λ w. machine_steady w.minutes w.works };
 
     fn earliest(&self, arrival: u32) -> u32 {
         arrival.min(END)
