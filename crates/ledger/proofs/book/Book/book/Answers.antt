@@ -1,4 +1,4 @@
-use Rattle.std.proofs.Common.{◌≡◌, ℕ, ◌+◌, ◌≤◌, length, vec_items, vec_len, sym, subst, arith, rules}
+use Rattle.std.proofs.Common.{◌≡◌, ℕ, ◌+◌, ◌≤◌, length, vec_items, vec_len, subst, arith, rules}
 use Rattle.ledger.specs.Bookings.{last_call}
 use Rattle.ledger.proofs.Growing.{dues_more, calls_more, last_some}
 use Rattle.ledger.proofs.book.Book.book.Goals as goal

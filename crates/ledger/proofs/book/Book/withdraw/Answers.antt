@@ -1,4 +1,4 @@
-use Rattle.std.proofs.Common.{◌≡◌, ℕ, ◌+◌, ◌-◌, ◌<◌, ◌≤◌, length, get_or, vec_items, vec_len, sym, ap, subst, arith, rules}
+use Rattle.std.proofs.Common.{◌≡◌, ◌+◌, ◌-◌, ◌<◌, ◌≤◌, vec_items, vec_len, sym, ap, subst, arith, rules}
 use Rattle.ledger.specs.declared.bookings.Booking.{Booking}
 use Rattle.ledger.proofs.Growing.{at_less}
 use Rattle.ledger.proofs.book.Book.withdraw.Goals as goal
