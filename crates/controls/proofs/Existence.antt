@@ -1,5 +1,5 @@
 -- Lawful counts have a table of times.
-use Rattle.std.proofs.Common.{◌≡◌, ℕ, zero, suc, ◌+◌, ◌-◌, ◌≤◌, List, [], ◌∷◌, ◌++◌, map, length, take, sym, refl, ap, ◌∙◌, subst, inl, inr, arith, length-append, length-take-le, take_all, take-take, ext_get_or}
+use Rattle.std.proofs.Common.{◌≡◌, ℕ, zero, suc, ◌-◌, ◌≤◌, List, [], ◌∷◌, ◌++◌, map, length, take, sym, refl, ap, ◌∙◌, subst, inl, inr, arith, length-append, length-take-le, take_all, take-take, ext_get_or}
 use mathlib.Core.WellFounded.{Acc, WellFounded, fix, fix-eq}
 use native.Mathlib.Decide.{ℕ_discrete, dec_lt}
 use lib.Seq.{take-append-le}

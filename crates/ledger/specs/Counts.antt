@@ -1,4 +1,4 @@
-use Rattle.std.specs.Prelude.{ℕ, ◌-◌, ◌<◌, ◌≤◌, Bool, false, cond, List, length, set, nat_le, nat_lt, slice_index, slice_set}
+use Rattle.std.specs.Prelude.{ℕ, ◌-◌, ◌<◌, ◌≤◌, Bool, false, cond, List, length, nat_le, nat_lt, slice_index, slice_set}
 
 -- Maxima that a board can have: 1 to 16 of them, each 64 at most.
 pub record Fit (maxima : List ℕ) : Type 0 where

@@ -13,5 +13,5 @@ returns-in-Some c =
     let one = c.in-Some.ensures in
     let is : c.args.place ≡ suc c.in-Some.index = omega (arith, one.0, one.1) in
     rw is
-    (c.unwrap-or.ensures ∙ ap (λ o. unwrap_or o 0) c.copied.ensures
+    (c.unwrap_or.ensures ∙ ap (λ o. unwrap_or o 0) c.copied.ensures
     ∙ item_or c.args.counts.now c.in-Some.index c.get.result c.get.ensures.lookup)
