@@ -38,7 +38,7 @@ fn entry_named(word: &[u8]) -> Option<EntryWord>
 fn is_stage(word: &[u8]) -> bool
     ensures { Decides result (word.now ≡ codes "stage") }
 {
-    word == b"stage"
+    word == b"stage".as_slice()
 }
 
 // The stage of a line `(stage NAME CORE ..)`.

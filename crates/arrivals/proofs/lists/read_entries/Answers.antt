@@ -13,8 +13,8 @@ loop-cursor-smaller c = shorter EntryFits entry_written c.in-Ok.ensures
 
 pub loop-cursor-preserved : goal.loop-cursor-preserved
 loop-cursor-preserved c =
-    let pushed = chosen _ _ _ _ c.push.ensures.items (ap is_ok c.in-ok-push.was) in
-    subst (Held c.args.text.now c.entry-line.new.cursor.rest.now) (sym pushed) (held_more c.loop-cursor.invariant c.in-Ok.ensures)
+    let pushed = chosen _ _ _ _ c.push.ensures.items (ap is_ok c.in_ok-push.was) in
+    subst (Held c.args.text.now c.entry_line.new.cursor.rest.now) (sym pushed) (held_more c.loop-cursor.invariant c.in-Ok.ensures)
 
 pub returns : goal.returns
 returns c = held_all c.loop-cursor.invariant (nil_from_length _ (search rules))

@@ -4,11 +4,11 @@ use Rattle.forms.specs.Forms.{Numbered}
 use Rattle.forms.proofs.Read.{begun_more, begun_low, Stops, run_plain, run_sound, past}
 use Rattle.forms.proofs.numbers.number.Goals as goal
 
-pub overflow-mul-n : goal.overflow-mul-n
-overflow-mul-n c = omega (arith, begun_low _ _ _ c.loop-at.invariant (omega arith))
+pub overflow_mul-n : goal.overflow_mul-n
+overflow_mul-n c = omega (arith, begun_low _ _ _ c.loop-at.invariant (omega arith))
 
-pub overflow-add-n : goal.overflow-add-n
-overflow-add-n c = omega (arith, begun_low _ _ _ c.loop-at.invariant (omega arith))
+pub overflow_add-n : goal.overflow_add-n
+overflow_add-n c = omega (arith, begun_low _ _ _ c.loop-at.invariant (omega arith))
 
 pub loop-at-preserved : goal.loop-at-preserved
 loop-at-preserved c = begun_more _ _ _ _ c.loop-at.invariant c.loop-at-test.true c.if-at-lt8.true (search rules) c.from-in-0-to-9.ensures

@@ -6,4 +6,4 @@ pub returns-then-n-eq0 : goal.returns-then-n-eq0
 returns-then-n-eq0 c = no_word _ c.letters-n.result (c.letters-n.ensures.within, c.letters-n.ensures.letters, c.letters-n.ensures.stops) (search rules)
 
 pub returns : goal.returns
-returns c = word_read _ c.letters-n.result _ _ (c.letters-n.ensures.within, c.letters-n.ensures.letters, c.letters-n.ensures.stops) (omega arith) (omega arith) c.split-at.ensures.front c.split-at.ensures.back
+returns c = word_read _ c.letters-n.result _ _ (c.letters-n.ensures.within, c.letters-n.ensures.letters, c.letters-n.ensures.stops) (omega arith) (omega arith) c.split_at.ensures.front c.split_at.ensures.back

@@ -3,11 +3,11 @@ use Rattle.forms.proofs.Spelled.{unspelled}
 use Rattle.forms.specs.declared.stages.CoreWord.TheVariants.{Machine, Oven}
 use Rattle.forms.proofs.cursor.Cursor.core.Goals as goal
 
-pub returns-in-err-word : goal.returns-in-err-word
-returns-in-err-word c = search (rules, unspelled c.in-err-word.ensures.1 (codes "machine") 32, unspelled c.in-err-word.ensures.1 (codes "oven") 32)
+pub returns-in_err-word : goal.returns-in_err-word
+returns-in_err-word c = search (rules, unspelled c.in_err-word.ensures.1 (codes "machine") 32, unspelled c.in_err-word.ensures.1 (codes "oven") 32)
 
-pub returns-in-err-expect-2 : goal.returns-in-err-expect-2
-returns-in-err-expect-2 c = search (rules, c.in-ok-word.ensures.1 (codes "machine") 32, c.in-ok-word.ensures.1 (codes "oven") 32)
+pub returns-in_err-expect-2 : goal.returns-in_err-expect-2
+returns-in_err-expect-2 c = search (rules, c.in_ok-word.ensures.1 (codes "machine") 32, c.in_ok-word.ensures.1 (codes "oven") 32)
 
-pub returns-in-default : goal.returns-in-default
-returns-in-default c = search (rules, c.in-default.ensures Machine, c.in-default.ensures Oven, c.in-ok-word.ensures.1 (codes "machine") 32, c.in-ok-word.ensures.1 (codes "oven") 32)
+pub returns-in_default : goal.returns-in_default
+returns-in_default c = search (rules, c.in_default.ensures Machine, c.in_default.ensures Oven, c.in_ok-word.ensures.1 (codes "machine") 32, c.in_ok-word.ensures.1 (codes "oven") 32)
