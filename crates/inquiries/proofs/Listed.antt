@@ -1,5 +1,5 @@
 -- A list of numbers, each after a space and the last before a bracket.
-use Rattle.std.proofs.Common.{◌≡◌, ℕ, suc, ◌+◌, ◌^◌, ◌<◌, ◌≤◌, List, [], ◌∷◌, ◌++◌, length, take, set, codes, decimal, sym, refl, ap, ◌∙◌, subst, append_assoc, arith, length-append, length-set}
+use Rattle.std.proofs.Common.{◌≡◌, ℕ, suc, ◌+◌, ◌^◌, ◌<◌, ◌≤◌, List, [], ◌∷◌, ◌++◌, length, take, set, codes, decimal, sym, refl, ap, ◌∙◌, append_assoc, arith, length-append, length-set}
 use Rattle.std.specs.List.{AllByRecursion as All}
 use Rattle.std.proofs.lemmas.List.{take_more_set, flat_map_more, append-nil, length-take-le}
 use Rattle.forms.specs.Forms.{Numbered, OnlyNumber}
