@@ -12,7 +12,7 @@ pub(crate) fn ask<C: Control>(
     counts: &[u32],
 ) -> [[Option<Wait>; 3]; MOST_ROWS]
     requires { stages ≤ 8 }
-    ensures { Tells stages ((meaning control.now).waits stages counts.now) result }
+    ensures { Tells stages ((C.meaning control.now).waits stages counts.now) result }
 {
     let mut told = [[None; 3]; MOST_ROWS];
     for row in 0..3 * stages as usize + 1 {

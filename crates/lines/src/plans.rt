@@ -22,10 +22,10 @@ pub(crate) struct Plan {
 // The plan of a line of so many stages with these counts. The control is asked here, and not again.
 pub(crate) fn planned<C: Control>(control: &C, stages: u32, counts: &[u32]) -> Plan
     requires stages_bound { stages ≤ 8 }
-    requires fits { Fits (meaning control.now) stages counts.now }
-    requires counts_value { (meaning control.now).lawful stages counts.now ≡ true }
+    requires fits { Fits (C.meaning control.now) stages counts.now }
+    requires counts_value { (C.meaning control.now).lawful stages counts.now ≡ true }
     ensures stages { result.stages ≡ stages }
-    ensures tells { Tells stages ((meaning control.now).waits stages counts.now) result.told }
+    ensures tells { Tells stages ((C.meaning control.now).waits stages counts.now) result.told }
     ensures planned { Planned result }
 {
     let told = ask(control, stages, counts);

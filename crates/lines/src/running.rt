@@ -72,7 +72,7 @@ fn place_event<R: Row>(
     requires runnable { Runnable plan.now book.now sheet.old }
     requires index_in_bounds { index < length book.now }
     requires k_lt_count { k < plan.now.count }
-    ensures { Advances plan.now book.now index (placed plan.now k) sheet.old (meanings row.old) index (placed plan.now (k + 1)) sheet.new (meanings row.new) }
+    ensures { Advances plan.now book.now index (placed plan.now k) sheet.old (R.meanings row.old) index (placed plan.now (k + 1)) sheet.new (R.meanings row.new) }
 {
     let event = plan.events[k];
     let at = row_of(plan.stages, event);
@@ -95,7 +95,7 @@ fn place_event<R: Row>(
 fn run_part<R: Row>(plan: &Plan, row: &mut R, book: &[Booking], sheet: &mut [u32], index: usize)
     requires runnable { Runnable plan.now book.now sheet.old }
     requires index_in_bounds { index < length book.now }
-    ensures { Advances plan.now book.now index (placed plan.now 0) sheet.old (meanings row.old) (index + 1) (placed plan.now 0) sheet.new (meanings row.new) }
+    ensures { Advances plan.now book.now index (placed plan.now 0) sheet.old (R.meanings row.old) (index + 1) (placed plan.now 0) sheet.new (R.meanings row.new) }
 {
     for k in 0..plan.count {
         place_event(plan, row, book, sheet, index, k);
@@ -105,10 +105,10 @@ fn run_part<R: Row>(plan: &Plan, row: &mut R, book: &[Booking], sheet: &mut [u32
 // Works out all booked parts, from fresh stations.
 pub(crate) fn evaluate<R: Row>(plan: &Plan, row: &mut R, book: &[Booking], sheet: &mut [u32])
     requires runnable { Runnable plan.now book.now sheet.old }
-    requires stages_in_bounds { plan.now.stages ≤ length (meanings row.old) }
-    ensures times { Times plan.now.stages (asked plan.now.stages plan.now.told) (fresh_rules (meanings row.old)) (calls book.now) (rows plan.now.stages (length book.now) sheet.new) }
+    requires stages_in_bounds { plan.now.stages ≤ length (R.meanings row.old) }
+    ensures times { Times plan.now.stages (asked plan.now.stages plan.now.told) (fresh_rules (R.meanings row.old)) (calls book.now) (rows plan.now.stages (length book.now) sheet.new) }
     ensures others { drop (room plan.now.stages (length book.now)) sheet.new ≡ drop (room plan.now.stages (length book.now)) sheet.old }
-    ensures row { RowLoadedWith plan.now.stages (λ i. rows plan.now.stages (length book.now) sheet.new (Release i)) (meanings row.old) (meanings row.new) }
+    ensures row { RowLoadedWith plan.now.stages (λ i. rows plan.now.stages (length book.now) sheet.new (Release i)) (R.meanings row.old) (R.meanings row.new) }
 {
     row.fresh();
     for index in 0..book.len() {

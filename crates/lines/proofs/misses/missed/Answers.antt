@@ -12,19 +12,19 @@ loop-index-preserved c =
     let i = c.loop-index.invariant in
     elim c.if-book-index.branch [
       | goal.then-book-index+in-None w ↦ (
-        w.count-is ∙ one_missed book ds c.requires.1 k c.loop-index-test.true c.loop-index.count i.0 w.if-book-index.true,
+        w.count-is ∙ one_missed book ds c.requires.deliveries_len k c.loop-index-test.true c.loop-index.count i.0 w.if-book-index.true,
         omega (arith, w.count-is, i.1),
-        subst (SoFar (k + 1) book ds) (sym w.first-is) (found book ds c.requires.1 k c.loop-index-test.true (subst (SoFar k book ds) w.in-None.is i.2) w.if-book-index.true),
+        subst (SoFar (k + 1) book ds) (sym w.first-is) (found book ds c.requires.deliveries_len k c.loop-index-test.true (subst (SoFar k book ds) w.in-None.is i.2) w.if-book-index.true),
       )
-      | goal.then-book-index+in-default w ↦ (
-        w.count-is ∙ one_missed book ds c.requires.1 k c.loop-index-test.true c.loop-index.count i.0 w.if-book-index.true,
+      | goal.then-book-index+in_default w ↦ (
+        w.count-is ∙ one_missed book ds c.requires.deliveries_len k c.loop-index-test.true c.loop-index.count i.0 w.if-book-index.true,
         omega (arith, w.count-is, i.1),
-        subst (SoFar (k + 1) book ds) (sym (w.first-is ∙ w.in-default.is)) (found_before book ds c.requires.1 k c.loop-index-test.true w.in-default.field-0 (subst (SoFar k book ds) w.in-default.is i.2)),
+        subst (SoFar (k + 1) book ds) (sym (w.first-is ∙ w.in_default.is)) (found_before book ds c.requires.deliveries_len k c.loop-index-test.true w.in_default.field-0 (subst (SoFar k book ds) w.in_default.is i.2)),
       )
       | goal.else-book-index w ↦ (
-        w.count-is ∙ none_missed book ds c.requires.1 k c.loop-index-test.true c.loop-index.count i.0 w.if-book-index.false,
+        w.count-is ∙ none_missed book ds c.requires.deliveries_len k c.loop-index-test.true c.loop-index.count i.0 w.if-book-index.false,
         omega (arith, w.count-is, i.1),
-        subst (SoFar (k + 1) book ds) (sym w.first-is) (met_more book ds c.requires.1 k c.loop-index-test.true c.loop-index.first i.2 w.if-book-index.false),
+        subst (SoFar (k + 1) book ds) (sym w.first-is) (met_more book ds c.requires.deliveries_len k c.loop-index-test.true c.loop-index.first i.2 w.if-book-index.false),
       )
     ]
 

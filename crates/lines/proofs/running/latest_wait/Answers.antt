@@ -9,7 +9,7 @@ loop-wait-preserved c =
     let t = rows c.args.stages (length c.args.book.now) c.args.sheet.now in
     let h : c.loop-wait.wait-index < length c.args.waits.now = search rules in
     let e = latest_more (calls c.args.book.now) t (c.args.index + 1) c.args.waits.now c.loop-wait.wait-index h in
-    c.max-latest.ensures ∙ ap (λ x. max x c.wait-end.result) c.loop-wait.invariant ∙ ap (max _) c.wait-end.ensures ∙ sym e
+    c.max-latest.ensures ∙ ap (λ x. max x c.wait_end.result) c.loop-wait.invariant ∙ ap (max _) c.wait_end.ensures ∙ sym e
 
 pub returns : goal.returns
 returns c =

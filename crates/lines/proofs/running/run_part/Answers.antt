@@ -5,17 +5,17 @@ use Rattle.lines.proofs.Planning.{runnable_on}
 use Rattle.lines.proofs.Working.{part_over}
 use Rattle.lines.proofs.running.run_part.Goals as goal
 
-pub place-event-requires : goal.place-event-requires
-place-event-requires g c =
-    (runnable_on c.args.plan.now c.args.book.now c.args.sheet.now c.loop-k.sheet c.requires.0 c.loop-k.auto.sheet, c.requires.1, c.loop-k-test.true)
+pub place_event-requires : goal.place_event-requires
+place_event-requires g c =
+    (record { runnable = runnable_on c.args.plan.now c.args.book.now c.args.sheet.now c.loop-k.sheet c.requires.runnable c.loop-k.auto.sheet; index_in_bounds = c.requires.index_in_bounds; k_lt_count = c.loop-k-test.true })
 
 pub loop-k-preserved : goal.loop-k-preserved
-loop-k-preserved g c = λ begun first run. c.place-event.ensures begun first (c.loop-k.invariant begun first run)
+loop-k-preserved g c = λ begun first run. c.place_event.ensures begun first (c.loop-k.invariant begun first run)
 
 pub returns : goal.returns
 returns g c = λ begun first run.
     let plan = c.args.plan.now in
     let N = plan.stages in
     let es = take plan.count plan.events in
-    let sz : length es ≤ c.loop-k.k = (let l = length-take-le plan.count plan.events (omega (arith, c.requires.0.planned.sized, c.requires.0.planned.events_few)) in omega arith) in
-    part_over N (asked N plan.told) es c.requires.0.planned.order begun (calls c.args.book.now) first c.args.index c.loop-k.sheet (g.R.Row.meanings c.loop-k.row) c.loop-k.k sz (c.loop-k.invariant begun first run)
+    let sz : length es ≤ c.loop-k.k = (let l = length-take-le plan.count plan.events (omega (arith, c.requires.runnable.planned.sized, c.requires.runnable.planned.events_few)) in omega arith) in
+    part_over N (asked N plan.told) es c.requires.runnable.planned.order begun (calls c.args.book.now) first c.args.index c.loop-k.sheet (g.R.Row.meanings c.loop-k.row) c.loop-k.k sz (c.loop-k.invariant begun first run)

@@ -26,15 +26,15 @@ evaluate-requires g c =
     let sz : length (vec_items c.args.book.now.parts) ≡ vec_len c.args.book.now.parts = search rules in
     let few : vec_len c.args.book.now.parts ≤ 128 = search rules in
     let plan = c.planned-plan.result in
-    let ok = clear C N ms (length bs) c.counts-counts.result.now (length c.args.sheet.now) c.in-ok-admit.ensures in (
-      subst (λ xs. Runnable c.planned-plan.result xs c.args.sheet.now) (sym c.parts-parts.ensures) (record {
+    let ok = clear C N ms (length bs) c.counts-counts.result.now (length c.args.sheet.now) c.in_ok-admit.ensures in record {
+      runnable = subst (λ xs. Runnable c.planned-plan.result xs c.args.sheet.now) (sym c.parts-parts.ensures) (record {
         planned = c.planned-plan.ensures.planned;
         called = book_rises book sz;
         parts_few = omega (arith, sz, few);
         wide = subst (λ n. room n (length bs) ≤ length c.args.sheet.now) (sym c.planned-plan.ensures.stages) ok.wide;
-      }),
-      omega (arith, ok.enough, c.planned-plan.ensures.stages),
-    )
+      });
+      stages_in_bounds = omega (arith, ok.enough, c.planned-plan.ensures.stages);
+    }
 
 pub returns : goal.returns
 returns g c =
@@ -44,7 +44,7 @@ returns g c =
     let e = c.evaluate.ensures in
     let end = run_ends (g.C.Control.meaning line.control) (g.met.C.Control.lawful line.control) line.stages (g.R.Row.meanings line.row) (g.met.R.Row.lawful line.row)
     (vec_items book.parts) c.parts-parts.result.now c.parts-parts.ensures (book_rises book sz)
-    (vec_items c.args.board.now.counts) c.counts-counts.result.now c.args.sheet.now c.counts-counts.ensures c.in-ok-admit.ensures
+    (vec_items c.args.board.now.counts) c.counts-counts.result.now c.args.sheet.now c.counts-counts.ensures c.in_ok-admit.ensures
     c.planned-plan.result.stages c.planned-plan.ensures.stages c.planned-plan.result.told c.planned-plan.ensures.tells
     c.evaluate.new.sheet (g.R.Row.meanings c.evaluate.new.row) c.evaluate.auto.sheet
     (record { times = e.times; others = e.others; row = e.row }) c.missed.result c.missed.ensures.count c.missed.ensures.first in
