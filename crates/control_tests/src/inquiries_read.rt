@@ -20,7 +20,7 @@ fn an_inquiry(rt: HostRuntime) -> Result<(), Fail> {
     let inquiry = read_inquiry(b"(control general)\n(stages 2)\n(cards 0 10 2 64)\n")?;
     assert_eq!(rt; inquiry.control, ControlName::General);
     assert_eq!(rt; inquiry.stages, 2);
-    assert!(rt; inquiry.counts.as_slice() == &[0, 10, 2, 64]);
+    assert!(rt; inquiry.counts.as_slice() == [0, 10, 2, 64].as_slice());
     Ok(())
 }
 

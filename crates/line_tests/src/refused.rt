@@ -4,16 +4,18 @@ use controls::kanban::Kanban;
 use ledger::board::PlaceNo;
 use lines::faults::LineFault;
 use lines::line::Line;
+use std::alloc::AllocGlobal;
+use std::process::Abort;
 use std::test::*;
 
 // A line of so many machines is not made with so many stages.
-fn not_made(rt: &HostRuntime, stations: u32, stages: u32) -> Result<(), Fail> {
+fn not_made(rt: &(impl Abort + AllocGlobal), stations: u32, stages: u32) -> Result<(), Fail> {
     match Line::new(bank(rt, stations)?, Kanban, stages) {
         Ok(_) => Err(Fail::new("it is made")),
         Err(fault) => {
-            assert_eq!(fault, LineFault::Stages);
+            assert_eq!(rt; fault, LineFault::Stages);
             Ok(())
-        },
+        }
     }
 }
 

@@ -8,11 +8,13 @@ use ledger::book::Book;
 use ledger::faults::BookFault;
 use rows::loading::Row;
 use stations::numbers::PartNo;
+use std::alloc::AllocGlobal;
+use std::process::Abort;
 use std::test::*;
 
 // The deliveries of one stage are the last row of the sheet.
 fn delivers<C: Control + Drop>(
-    rt: &HostRuntime,
+    rt: &(impl Abort + AllocGlobal),
     control: C,
     counts: &[u32],
     calls: &[u32],
@@ -22,8 +24,8 @@ fn delivers<C: Control + Drop>(
     let book = called(rt, calls)?;
     let board = carded(rt, counts)?;
     let mut written = vec![in rt.alloc(); 7; sheet.len()]?;
-    assert_eq!(line.run(&book, &board, &mut written), Ok((0, None)));
-    assert!(written.as_slice() == sheet);
+    assert_eq!(rt; line.run(&book, &board, &mut written), Ok((0, None)));
+    assert!(rt; written.as_slice() == sheet);
     Ok(())
 }
 

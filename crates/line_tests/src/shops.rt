@@ -4,10 +4,11 @@ use ledger::book::Book;
 use lines::line::Line;
 use rows::banks::Bank;
 use stations::machines::Machine;
+use std::alloc::AllocGlobal;
 use std::test::*;
 
 // A row of so many machines of one place and 10 minutes.
-pub(crate) fn bank(rt: &HostRuntime, count: u32) -> Result<Bank<Machine>, Fail> {
+pub(crate) fn bank(rt: &impl AllocGlobal, count: u32) -> Result<Bank<Machine>, Fail> {
     let mut stations = Vec::new(rt.alloc());
     for _ in 0..count {
         stations.push(Machine::new(1, 10)?)?;
@@ -17,7 +18,7 @@ pub(crate) fn bank(rt: &HostRuntime, count: u32) -> Result<Bank<Machine>, Fail> 
 
 // A line of such a row.
 pub(crate) fn machines<C: Control + Drop>(
-    rt: &HostRuntime,
+    rt: &impl AllocGlobal,
     control: C,
     stages: u32,
 ) -> Result<Line<Bank<Machine>, C>, Fail> {
@@ -25,7 +26,7 @@ pub(crate) fn machines<C: Control + Drop>(
 }
 
 // A book of parts that are called at these minutes, and due whenever.
-pub(crate) fn called(rt: &HostRuntime, calls: &[u32]) -> Result<Book, Fail> {
+pub(crate) fn called(rt: &impl AllocGlobal, calls: &[u32]) -> Result<Book, Fail> {
     let mut book = Book::new(rt.alloc())?;
     for call in calls {
         book.book(*call, 999_999)?;
@@ -34,6 +35,6 @@ pub(crate) fn called(rt: &HostRuntime, calls: &[u32]) -> Result<Book, Fail> {
 }
 
 // A board that stands at these counts.
-pub(crate) fn carded(rt: &HostRuntime, counts: &[u32]) -> Result<Board, Fail> {
+pub(crate) fn carded(rt: &impl AllocGlobal, counts: &[u32]) -> Result<Board, Fail> {
     Ok(Board::new(rt.alloc(), counts)?)
 }
