@@ -1,4 +1,4 @@
-use Rattle.std.specs.Prelude.{◌≡◌, ℕ}
+use Rattle.std.specs.Prelude.{◌≡◌}
 use Rattle.calendar.specs.Week.{open_before, time_by}
 use Rattle.calendar.specs.WeekOf.{early_week}
 

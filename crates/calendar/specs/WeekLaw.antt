@@ -1,4 +1,4 @@
-use Rattle.std.specs.Prelude.{◌≡◌, ℕ, ◌<◌, ◌≤◌, true, List, []}
+use Rattle.std.specs.Prelude.{◌≡◌, ℕ, ◌<◌, ◌≤◌, true, List}
 use Rattle.calendar.specs.Week.{open_at, open_before, time_by}
 use Rattle.calendar.specs.declared.shifts.Shift.{Shift}
 

@@ -1,5 +1,5 @@
 -- Tables of one stage, and that they are the only ones.
-use Rattle.std.proofs.Common.{◌≡◌, ℕ, zero, suc, ◌*◌, ◌≤◌, true, List, [], ◌∷◌, map, length, take, sym, refl, ap, ◌∙◌, subst, arith}
+use Rattle.std.proofs.Common.{◌≡◌, ℕ, zero, suc, ◌*◌, ◌≤◌, true, List, [], ◌∷◌, map, length, take, sym, refl, subst, arith}
 use Rattle.stations.specs.declared.numbers.StageNo.{StageNo}
 use Rattle.stations.specs.Lists.{at}
 use Rattle.stations.specs.Rule.{Rising}
@@ -8,7 +8,6 @@ use Rattle.stations.specs.Serves.{served_lawful, machine_steady}
 use Rattle.controls.specs.declared.events.Event.{Event}
 use Rattle.controls.specs.declared.events.Event.TheVariants.{Pass, Release, Completion, Delivery}
 use Rattle.controls.specs.Base.{base}
-use Rattle.controls.specs.Claims.{Setting}
 use Rattle.controls.specs.Control.{Meaning, LawfulControl}
 use Rattle.controls.specs.Events.{IsStage, InLine, Waits}
 use Rattle.controls.specs.Extended.{extended}
@@ -22,8 +21,7 @@ use Rattle.controls.specs.ExtendedLaws.{extended_laws}
 use Rattle.controls.specs.GeneralLaws.{general_laws}
 use Rattle.ledger.specs.declared.bookings.Booking.{Booking}
 use Rattle.lines.specs.Missed.{calls}
-use Rattle.lines.specs.Runs.{TimesFor}
-use Rattle.line_tests.specs.ByHand.{one_stage, called, Delivers}
+use Rattle.line_tests.specs.ByHand.{called, Delivers}
 
 -- the rows of a table of one stage
 abbrev pub table : List ℕ → List ℕ → List ℕ → List ℕ → Table

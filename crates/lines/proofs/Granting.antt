@@ -1,5 +1,5 @@
 -- What stands when a run is granted, and what follows for two of them.
-use Rattle.std.proofs.Common.{◌≡◌, ℕ, zero, suc, ◌+◌, ◌-◌, ◌*◌, ◌<◌, ◌≤◌, Bool, true, false, ◌⊎◌, List, [], ◌∷◌, map, length, get_or, take, drop, Ok, Option, sym, refl, ap, ◌∙◌, subst, inl, inr, arith}
+use Rattle.std.proofs.Common.{◌≡◌, ℕ, suc, ◌+◌, ◌-◌, ◌*◌, ◌<◌, ◌≤◌, Bool, true, false, List, [], ◌∷◌, length, get_or, take, drop, Ok, Option, refl, ap, ◌∙◌, subst, inl, inr, arith}
 use Rattle.std.proofs.lemmas.Bool.{cases_eq, cases_lt}
 use Rattle.calendar.specs.Clock.{E}
 use Rattle.stations.specs.declared.numbers.PartNo.{PartNo}
@@ -7,7 +7,6 @@ use Rattle.stations.specs.Rule.{Rising, Meaning as Station}
 use Rattle.rows.specs.Row.{AllLawful}
 use Rattle.controls.specs.declared.events.Event.TheVariants.{Release, Delivery}
 use Rattle.controls.specs.declared.events.Wait.{Wait}
-use Rattle.controls.specs.Claims.{Setting}
 use Rattle.controls.specs.Control.{Fits, LawfulControl, Meaning as Controls}
 use Rattle.controls.specs.Times.{Times}
 use Rattle.controls.proofs.Consequences.{more_cards}

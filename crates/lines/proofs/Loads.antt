@@ -1,6 +1,5 @@
 -- A station after one more load, and the stations of a row by their numbers.
-use Rattle.std.proofs.Common.{◌≡◌, ℕ, zero, suc, ◌+◌, ◌-◌, ◌<◌, ◌≤◌, Bool, true, false, ◌⊎◌, List, [], ◌∷◌, ◌++◌, map, length, get_or, Some, None, Ok, Err, Option, Result, sym, refl, ap, ◌∙◌, subst, inl, inr, append_assoc, arith, length-append}
-use lib.ListN.{length-map}
+use Rattle.std.proofs.Common.{◌≡◌, ℕ, zero, suc, ◌-◌, ◌<◌, ◌≤◌, false, List, [], ◌∷◌, ◌++◌, map, length, get_or, Some, None, Ok, Err, Option, Result, sym, refl, ap, ◌∙◌, subst, inl, inr, append_assoc, arith, length-append}
 use Rattle.std.proofs.lemmas.Bool.{le-ltb}
 use Rattle.calendar.specs.Clock.{E}
 use Rattle.stations.specs.declared.loading.LoadFault.{LoadFault}
@@ -12,7 +11,6 @@ use Rattle.rows.specs.declared.loading.RowFault.{RowFault}
 use Rattle.rows.specs.declared.loading.RowFault.TheVariants.{NoStation, Refused}
 use Rattle.rows.specs.Row.{AllLawful, LoadedAt}
 use Rattle.rows.specs.RowLoad.{RowLoaded}
-use Rattle.controls.specs.Events.{IsStage}
 use Rattle.controls.specs.Times.{LawfulRow}
 use Rattle.lines.specs.Stations.{no_station, station, fresh_rules, last_of, LoadedWith}
 

@@ -1,22 +1,21 @@
 -- One more event is placed.
-use Rattle.std.proofs.Common.{◌≡◌, ℕ, zero, suc, ◌+◌, ◌<◌, ◌≤◌, Bool, true, false, ◌||◌, eqb, ◌⊎◌, List, [], ◌∷◌, ◌++◌, length, get_or, take, set, Some, None, Option, sym, refl, ap, ◌∙◌, subst, subst₂, inl, inr, arith, length-append, length-set, eq-eqb, ne_eqb}
+use Rattle.std.proofs.Common.{◌≡◌, ℕ, zero, suc, ◌+◌, ◌<◌, Bool, true, false, ◌||◌, eqb, List, [], ◌∷◌, ◌++◌, length, get_or, take, set, Some, Option, sym, refl, ap, ◌∙◌, subst, subst₂, inl, inr, arith, length-append, length-set, eq-eqb, ne_eqb}
 use borrow.Author.Tests.{clash}
 use lib.ListN.{get_or-append}
 use lib.Seq.{take-append_seam, take-append-le}
 use Rattle.std.proofs.lemmas.List.{get_or_push, take_more_set, get_or-set_same, get_or-set_other}
-use Rattle.std.proofs.lemmas.Bool.{cases_eq, or_right, or_from}
+use Rattle.std.proofs.lemmas.Bool.{cases_eq, or_right}
 use Rattle.controls.specs.declared.events.Event.{Event}
 use Rattle.controls.specs.declared.events.Event.TheVariants.{Pass, Release, Completion, Delivery}
 use Rattle.controls.specs.declared.events.Wait.{Wait}
 use Rattle.controls.specs.declared.events.Wait.TheVariants.{Call, After}
 use Rattle.controls.specs.Lists.{Each}
-use Rattle.controls.specs.Control.{Steps}
 use Rattle.controls.specs.Events.{InLine, Waits, SourceIn}
 use Rattle.lines.specs.Sheet.{row_of}
 use Rattle.lines.specs.Asked.{asked}
 use Rattle.lines.specs.Order.{SourcePlaced, Ready, placed_by, Next, among, Follows, Begun, InOrder, Orderly}
 use Rattle.controls.proofs.Basics.{each_map₂}
-use Rattle.lines.proofs.Placing.{all_placed, waits_ready, ready_waits}
+use Rattle.lines.proofs.Placing.{all_placed}
 
 -- how many flags are down
 abbrev pub downs : List Bool → ℕ

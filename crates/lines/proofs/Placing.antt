@@ -1,5 +1,5 @@
 -- Where nothing more can be placed, all is placed.
-use Rattle.std.proofs.Common.{◌≡◌, ℕ, zero, suc, ◌+◌, ◌-◌, ◌<◌, ◌≤◌, Bool, true, false, ◌&&◌, ◌⊎◌, List, [], ◌∷◌, length, get_or, Some, None, Option, sym, refl, ap, ◌∙◌, subst, inl, inr, suc-le-suc, not-suc-le-zero, lt-suc_self, arith}
+use Rattle.std.proofs.Common.{◌≡◌, ℕ, zero, suc, ◌+◌, ◌<◌, Bool, true, false, List, [], ◌∷◌, length, get_or, Some, None, Option, sym, refl, ap, ◌∙◌, subst, inl, inr, suc-le-suc, not-suc-le-zero, lt-suc_self, arith}
 use Rattle.stations.specs.declared.numbers.StageNo.{StageNo}
 use Rattle.controls.specs.declared.events.Event.{Event}
 use Rattle.controls.specs.declared.events.Event.TheVariants.{Pass, Release, Completion, Delivery}
@@ -7,11 +7,11 @@ use Rattle.controls.specs.declared.events.Wait.{Wait}
 use Rattle.controls.specs.declared.events.Wait.TheVariants.{Call, After}
 use Rattle.controls.specs.Lists.{Each, somes}
 use Rattle.controls.specs.Control.{StepFits, Steps}
-use Rattle.controls.specs.Events.{IsStage, InLine, Waits, SourceIn}
+use Rattle.controls.specs.Events.{InLine, Waits, SourceIn}
 use Rattle.lines.specs.Asked.{Told, asked}
-use Rattle.lines.specs.Order.{SourcePlaced, Ready, source_placed, placed_by}
+use Rattle.lines.specs.Order.{SourcePlaced, Ready, source_placed}
 use Rattle.lines.specs.Sheet.{row_of}
-use Rattle.std.proofs.lemmas.Bool.{and_parts, and_from, cases_eq}
+use Rattle.std.proofs.lemmas.Bool.{cases_eq}
 use Rattle.controls.proofs.Basics.{each_map₂}
 
 module _ {N : ℕ} {waits : Event → List Wait} (steps : Steps N waits)

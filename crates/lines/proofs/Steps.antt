@@ -1,5 +1,5 @@
 -- One event of a part is worked out.
-use Rattle.std.proofs.Common.{◌≡◌, ℕ, zero, suc, ◌+◌, ◌-◌, ◌*◌, ◌/◌, ◌%◌, ◌<◌, ◌≤◌, Bool, true, false, cond, ◌⊎◌, List, [], ◌∷◌, ◌++◌, map, length, get_or, take, drop, set, Ok, sym, refl, ap, ◌∙◌, subst, inl, inr, arith, length-set}
+use Rattle.std.proofs.Common.{◌≡◌, ℕ, zero, suc, ◌+◌, ◌-◌, ◌*◌, ◌/◌, ◌%◌, ◌<◌, ◌≤◌, Bool, true, false, cond, ◌⊎◌, List, [], ◌∷◌, ◌++◌, map, length, get_or, take, drop, set, sym, refl, ap, ◌∙◌, subst, inl, inr, arith, length-set}
 use native.Mathlib.Decide.{ℕ_discrete}
 use borrow.Author.Tests.{clash}
 use Rattle.std.proofs.lemmas.Nat.{div-mul-add, mod-mul-add}
@@ -8,17 +8,16 @@ use Rattle.std.proofs.lemmas.Bool.{cases_eq}
 use Rattle.calendar.specs.Clock.{E}
 use Rattle.stations.specs.declared.numbers.StageNo.{StageNo}
 use Rattle.stations.specs.Lists.{at}
-use Rattle.stations.specs.Load.{Loaded}
 use Rattle.stations.specs.Rule.{Rising, Meaning as Station}
 use Rattle.controls.specs.declared.events.Event.{Event}
-use Rattle.controls.specs.declared.events.Event.TheVariants.{Pass, Release, Completion, Delivery}
+use Rattle.controls.specs.declared.events.Event.TheVariants.{Release, Completion}
 use Rattle.controls.specs.declared.events.Wait.{Wait}
 use Rattle.controls.specs.declared.events.Wait.TheVariants.{Call, After}
 use Rattle.controls.specs.Control.{Steps}
 use Rattle.controls.specs.Events.{IsStage, InLine, Waits, SourceIn}
 use Rattle.controls.specs.Filling.{Filled, SourceKnown}
 use Rattle.controls.specs.Lists.{latest, Each}
-use Rattle.controls.specs.Times.{Row, Table, wait_end, TimesOf}
+use Rattle.controls.specs.Times.{Table, wait_end}
 use Rattle.controls.proofs.Basics.{each_map, each_map₂}
 use Rattle.controls.proofs.Filling.{same_latest, same_front, known_kept, UpTo, placed_more}
 use Rattle.controls.proofs.Steady.{releases_rising}

@@ -2,7 +2,7 @@
 use Rattle.std.proofs.Common.{◌≡◌, ℕ, true, List, map, Option, sym, ap, ◌∙◌, subst}
 use Rattle.controls.specs.declared.events.Event.{Event}
 use Rattle.controls.specs.declared.events.Wait.{Wait}
-use Rattle.controls.specs.Control.{Meaning, Fits, LawfulControl, StepFits, Steps}
+use Rattle.controls.specs.Control.{Meaning, Fits, LawfulControl, StepFits}
 use Rattle.controls.specs.Events.{SourceIn}
 use Rattle.controls.specs.Lists.{Each, latest}
 use Rattle.controls.specs.Times.{Row, Table, wait_end, Times}

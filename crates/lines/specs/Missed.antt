@@ -1,4 +1,4 @@
-use Rattle.std.specs.Prelude.{◌≡◌, ℕ, ◌+◌, ◌-◌, ◌<◌, ◌≤◌, cond, List, [], ◌∷◌, map, length, Some, None, Option, nat_lt}
+use Rattle.std.specs.Prelude.{ℕ, ◌+◌, ◌-◌, ◌<◌, ◌≤◌, cond, List, [], ◌∷◌, map, length, Some, None, Option, nat_lt}
 use Rattle.stations.specs.declared.numbers.PartNo.{PartNo}
 use Rattle.stations.specs.Lists.{at}
 use Rattle.ledger.specs.declared.bookings.Booking.{Booking}

@@ -1,5 +1,5 @@
 -- The parts in turn: each starts by its arrival and by the part that had its place before, and leaves by its start.
-use Rattle.std.proofs.Common.{◌≡◌, ℕ, zero, suc, ◌+◌, ◌-◌, ◌*◌, ◌/◌, ◌%◌, ◌<◌, ◌≤◌, min, max, cond, ltb, leb, List, [], ◌∷◌, map, length, get_or, sym, refl, ap, ◌∙◌, mod-lt, div-add-mod', arith}
+use Rattle.std.proofs.Common.{◌≡◌, ℕ, zero, suc, ◌+◌, ◌-◌, ◌/◌, ◌<◌, ◌≤◌, max, cond, ltb, leb, List, [], ◌∷◌, map, length, get_or, sym, refl, ap, ◌∙◌, mod-lt, div-add-mod', arith}
 use native.Mathlib.Decide.{dec_le}
 use native.Mathlib.Nat.{mul-mod_left}
 use lib.ListN.{length-map}
@@ -9,7 +9,7 @@ use Rattle.calendar.specs.Clock.{cut}
 use Rattle.stations.specs.Lists.{at}
 use Rattle.stations.specs.Rule.{Rule}
 use Rattle.stations.specs.Serving.{Pace, start, served, machine, oven, round_up}
-use Rattle.stations.specs.ServingLaw.{LeavesInTurn, RoundedUp, Starts, StartsInTurn}
+use Rattle.stations.specs.ServingLaw.{LeavesInTurn, RoundedUp, StartsInTurn}
 
 -- the starts, not yet cut
 abbrev begun : ℕ → Pace → List ℕ → Rule

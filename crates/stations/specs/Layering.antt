@@ -1,11 +1,11 @@
 -- What makes a layer over a lawful station lawful, and its loads exact.
-use Rattle.std.specs.Prelude.{◌≡◌, ℕ, ◌+◌, ◌<◌, ◌≤◌, min, Bool, true, false, cond, ◌||◌, ltb, ◌⊎◌, List, [], ◌∷◌, map, length, IsErrAnd, Some, None, Ok, Err, Option, Result, nat_lt, refl}
+use Rattle.std.specs.Prelude.{◌≡◌, ℕ, ◌<◌, ◌≤◌, Bool, true, false, cond, ◌||◌, ltb, List, [], ◌∷◌, map, IsErrAnd, Some, None, Ok, Err, Option, Result, nat_lt, refl}
 use Rattle.std.proofs.Common.{sym, ap, ◌∙◌, subst, inl, inr, ⊎_elim, arith}
 use Rattle.std.proofs.Math.Path.{fun_ext}
 use Rattle.std.proofs.Math.Decide.{dec_le}
 use Rattle.std.proofs.lemmas.List.{take-map, length-map}
 use Rattle.std.proofs.lemmas.Bool.{lt-ltb, le-ltb, ltb-false, or_from, or_left, or_right}
-use Rattle.calendar.specs.Clock.{E, cut}
+use Rattle.calendar.specs.Clock.{E}
 use Rattle.calendar.specs.WeekOf.{shifts_of}
 use Rattle.calendar.specs.Week.{open_before, time_by}
 use Rattle.calendar.specs.WeekLaw.{Adjoint, Opens}
@@ -16,7 +16,6 @@ use Rattle.stations.specs.Load.{number, refusal, Loaded}
 use Rattle.stations.specs.Pieces.{moving, weekly}
 use Rattle.stations.specs.Rule.{Rule, Meaning, Rising, Below, Later, Lawful, before}
 use Rattle.stations.specs.declared.loading.LoadFault.{LoadFault}
-use Rattle.stations.specs.declared.loading.LoadFault.TheVariants.{PastEnd, OutOfOrder}
 
 lower : (m n : ℕ) (xs : List ℕ) → n ≤ m → Rising m xs → Rising n xs
 lower m n [] h r = tt

@@ -1,4 +1,3 @@
-use Rattle.std.proofs.Common.{refl}
 use Rattle.line_tests.proofs.by_hand.lines_by_hand.Goals as goal
 use Rattle.line_tests.proofs.Worked.{base_none, base_one, general_two, extended_two}
 

@@ -1,4 +1,4 @@
-use Rattle.std.proofs.Common.{◌≡◌, ◌<◌, ◌≤◌, length, replicate, None, Option, refl, arith, rules}
+use Rattle.std.proofs.Common.{◌<◌, ◌≤◌, length, replicate, None, Option, refl, rules}
 use Rattle.controls.specs.declared.events.Wait.{Wait}
 use Rattle.lines.proofs.FewWaits.{few_start, few_more}
 use Rattle.lines.proofs.asking.ask.Goals as goal

@@ -1,4 +1,4 @@
-use Rattle.std.proofs.Common.{◌≡◌, ◌<◌, [], length, get_or, arith, rules}
+use Rattle.std.proofs.Common.{arith, rules}
 use Rattle.controls.specs.Events.{Waits}
 use Rattle.lines.specs.Order.{placed_by}
 use Rattle.lines.proofs.Placing.{told_in, row_ready, not_ready}

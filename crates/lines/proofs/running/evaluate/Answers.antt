@@ -1,4 +1,4 @@
-use Rattle.std.proofs.Common.{◌≡◌, ◌≤◌, length, sym, subst, arith}
+use Rattle.std.proofs.Common.{◌≤◌, length, sym, subst, arith}
 use Rattle.lines.specs.Asked.{asked}
 use Rattle.lines.specs.Running.{Reached, placed}
 use Rattle.lines.specs.Sheet.{room}

@@ -1,5 +1,3 @@
-use Rattle.std.proofs.Common.{map}
-use Rattle.stations.specs.Rule.{freshened}
 use Rattle.lines.specs.Running.{Reached, placed}
 use Rattle.lines.proofs.running.evaluate.Given as goal
 

@@ -1,4 +1,4 @@
-use Rattle.std.proofs.Common.{◌≡◌, ◌+◌, ◌<◌, ◌≤◌, max, length, sym, ap, ◌∙◌, arith, rules}
+use Rattle.std.proofs.Common.{◌+◌, ◌<◌, ◌≤◌, max, length, sym, ap, ◌∙◌, rules}
 use Rattle.lines.specs.Missed.{calls}
 use Rattle.lines.specs.Sheet.{rows}
 use Rattle.lines.proofs.Ends.{latest_more, latest_all}

@@ -1,5 +1,5 @@
-use Rattle.std.proofs.Common.{◌≡◌, ◌+◌, ◌*◌, ◌≤◌, [], map, length, get_or, take, sym, ap, ◌∙◌, subst, arith, rules}
-use Rattle.controls.specs.declared.events.Event.TheVariants.{Release, Completion}
+use Rattle.std.proofs.Common.{◌+◌, ◌≤◌, [], map, length, get_or, take, ap, ◌∙◌, subst, arith, rules}
+use Rattle.controls.specs.declared.events.Event.TheVariants.{Release}
 use Rattle.controls.specs.Events.{InLine, Waits}
 use Rattle.controls.specs.Lists.{latest, somes}
 use Rattle.controls.specs.Times.{wait_end}

@@ -1,4 +1,4 @@
-use Rattle.std.proofs.Common.{◌≤◌, length, take, arith, length-take-le, rules}
+use Rattle.std.proofs.Common.{◌≤◌, length, take, arith, length-take-le}
 use Rattle.lines.specs.Asked.{asked}
 use Rattle.lines.specs.Missed.{calls}
 use Rattle.lines.proofs.Planning.{runnable_on}

@@ -1,4 +1,3 @@
-use Rattle.std.proofs.Common.{◌≡◌, length}
 use Rattle.lines.specs.Running.{Advances, placed}
 use Rattle.lines.proofs.running.run_part.Given as goal
 

@@ -1,6 +1,6 @@
-use Rattle.std.proofs.Common.{◌≡◌, ◌+◌, ◌-◌, ◌*◌, ◌<◌, length, Some, None, sym, refl, ap, ◌∙◌, subst, add-one, arith, rules}
+use Rattle.std.proofs.Common.{◌≡◌, ◌+◌, ◌-◌, ◌*◌, ◌<◌, length, Some, sym, ap, ◌∙◌, subst, arith, rules}
 use Rattle.std.proofs.lemmas.List.{get_or-map}
-use Rattle.lines.specs.Sheet.{row_of, rows}
+use Rattle.lines.specs.Sheet.{rows}
 use Rattle.lines.specs.Missed.{calls}
 use Rattle.ledger.specs.declared.bookings.Booking.{Booking}
 use Rattle.lines.proofs.Ends.{in_room, ends_after, at_next}

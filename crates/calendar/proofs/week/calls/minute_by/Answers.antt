@@ -1,4 +1,4 @@
-use Rattle.std.proofs.Common.{◌≡◌, ◌≤◌, sym, ◌∙◌, arith}
+use Rattle.std.proofs.Common.{sym, ◌∙◌, arith}
 use Rattle.calendar.specs.declared.shifts.Shift.{Shift}
 use Rattle.calendar.proofs.Weeks.{reached_step_here, reached_step_past, total_step, shift_fits, in_order, total_end}
 use Rattle.calendar.proofs.week.calls.minute_by.Goals as goal

@@ -1,4 +1,4 @@
-use Rattle.std.proofs.Common.{◌≡◌, ◌+◌, ◌≤◌, drop}
+use Rattle.std.proofs.Common.{◌≡◌, ◌≤◌, drop}
 use Rattle.calendar.specs.Week.{reached, total}
 use Rattle.calendar.proofs.week.calls.minute_by.Given as goal
 

@@ -1,5 +1,4 @@
-use Rattle.std.proofs.Common.{◌≡◌, [], length, drop, ap, arith}
-use Rattle.calendar.specs.Week.{opened}
+use Rattle.std.proofs.Common.{arith}
 use Rattle.calendar.specs.declared.shifts.Shift.{Shift}
 use Rattle.calendar.proofs.Weeks.{opened_step, opened_fits, in_order, opened_end}
 use Rattle.calendar.proofs.week.calls.opened_before.Goals as goal

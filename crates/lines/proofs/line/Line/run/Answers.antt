@@ -1,12 +1,7 @@
-use Rattle.std.proofs.Common.{◌≡◌, ℕ, ◌≤◌, List, length, Ok, vec_items, vec_len, sym, refl, ap, ◌∙◌, subst, arith, rules}
+use Rattle.std.proofs.Common.{◌≡◌, ◌≤◌, length, vec_items, vec_len, sym, refl, subst, arith, rules}
 use Rattle.stations.specs.Rule.{Rising}
-use Rattle.controls.specs.Control.{Meaning as Controls}
-use Rattle.ledger.specs.declared.bookings.Booking.{Booking}
 use Rattle.ledger.specs.declared.book.Book.{Book}
-use Rattle.lines.specs.Asked.{Tells}
 use Rattle.lines.specs.Missed.{calls}
-use Rattle.lines.specs.Refusals.{NoneHolds}
-use Rattle.lines.specs.Runs.{shop_of, against_run, Ran, MoreCardsNothingLater}
 use Rattle.lines.specs.Running.{Runnable}
 use Rattle.lines.specs.Sheet.{room}
 use Rattle.lines.proofs.Granting.{calls_rise, clear, run_ends}

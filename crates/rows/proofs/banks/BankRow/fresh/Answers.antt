@@ -1,5 +1,5 @@
-use Rattle.std.proofs.Common.{◌≡◌, ◌<◌, length, drop, vec_items, refl, arith}
-use Rattle.rows.specs.Numbering.{FreshTo, fresh_more, banked_fresh}
+use Rattle.std.proofs.Common.{◌<◌, length, drop, vec_items, refl, arith}
+use Rattle.rows.specs.Numbering.{fresh_more, banked_fresh}
 use Rattle.rows.proofs.banks.BankRow.fresh.Goals as goal
 
 pub loop-station-init : goal.loop-station-init

@@ -1,4 +1,4 @@
-use Rattle.std.proofs.Common.{◌≡◌, ◌<◌, length, Ok, Err, vec_items, refl, inl, inr, arith}
+use Rattle.std.proofs.Common.{Ok, Err, vec_items, refl, inl, inr, arith}
 use Rattle.rows.specs.Numbering.{banked_absent, banked_loads}
 use Rattle.rows.proofs.banks.BankRow.load.Goals as goal
 use Rattle.rows.proofs.banks.BankRow.load.Goals.{then-number-eq0-via-then-number-eq0, then-number-eq0-via-else-number-eq0+then-number-gt64, then-number-eq0-via-else-number-eq0+else-number-gt64+then-number-len}

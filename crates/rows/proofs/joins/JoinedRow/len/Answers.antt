@@ -1,4 +1,4 @@
-use Rattle.std.proofs.Common.{◌≡◌, sym, arith}
+use Rattle.std.proofs.Common.{arith}
 use Rattle.rows.specs.Numbering.{joined_length}
 use Rattle.rows.proofs.joins.JoinedRow.len.Goals as goal
 

@@ -1,5 +1,4 @@
-use Rattle.std.proofs.Common.{◌≡◌, ℕ, ◌-◌, ◌≤◌, length, Ok, Err, refl, ap, subst, arith}
-use Rattle.rows.specs.Row.{joined}
+use Rattle.std.proofs.Common.{◌-◌, Ok, refl, arith}
 use Rattle.rows.specs.Numbering.{joined_front, joined_back, joined_back_fault, joined_past}
 use Rattle.rows.proofs.joins.JoinedRow.load.Goals as goal
 
