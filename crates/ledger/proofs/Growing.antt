@@ -1,5 +1,5 @@
 -- Lists of bookings that grow and shrink at their end.
-use Rattle.std.proofs.Common.{◌≡◌, ℕ, ◌+◌, ◌-◌, ◌<◌, ◌≤◌, ◌⊎◌, List, [], ◌∷◌, ◌++◌, length, get_or, take, sym, refl, ap, ◌∙◌, subst, inl, inr, arith}
+use Rattle.std.proofs.Common.{◌≡◌, ℕ, ◌+◌, ◌-◌, ◌<◌, ◌≤◌, ◌⊎◌, List, [], ◌∷◌, ◌++◌, length, get_or, take, sym, ap, ◌∙◌, subst, inl, inr, arith}
 use Rattle.std.proofs.lemmas.List.{get_or_append_left, get_or-append_right, get_or-take, get_or_default}
 use Rattle.std.proofs.lemmas.Bool.{cases_lt}
 use Rattle.ledger.specs.Bookings.{last_call}
@@ -39,10 +39,6 @@ calls_more xs ys n b hn e old last k d h =
       ]
       | inr v ↦ omega (arith, h, v.0)
     ]
-
-pub last_none : (xs : List Booking) → length xs ≡ 0 → 0 ≡ last_call xs
-last_none [] h = refl
-last_none (x ∷ xs) h = let g : 1 ≤ length (x ∷ xs) = omega arith in omega (arith, h, g)
 
 pub at_less : (xs ys : List Booking) (n k : ℕ) (d : Booking) → ys ≡ take n xs → k < n → get_or ys k d ≡ get_or xs k d
 at_less xs ys n k d e h = ap (λ (l : List Booking). get_or l k d) e ∙ get_or-take n xs k d h

@@ -55,14 +55,14 @@ fn boards(rt: HostRuntime) -> Result<(), Fail> {
     refused(&rt, &[1; 17])?;
     refused(&rt, &[64, 65])?;
     let mut board = Board::new(rt.alloc(), &[64, 3])?;
-    assert!(rt; board.counts() == &[64, 3]);
+    assert!(rt; board.counts() == [64, 3].as_slice());
     assert_eq!(rt; board.set(PlaceNo(0), 1), Err(BoardFault::OffRange));
     assert_eq!(rt; board.set(PlaceNo(3), 1), Err(BoardFault::OffRange));
     assert_eq!(rt; board.set(PlaceNo(2), 4), Err(BoardFault::OffRange));
     assert_eq!(rt; board.set(PlaceNo(2), 0), Ok(()));
-    assert!(rt; board.counts() == &[64, 0]);
+    assert!(rt; board.counts() == [64, 0].as_slice());
     assert_eq!(rt; board.set(PlaceNo(2), 3), Ok(()));
-    assert!(rt; board.counts() == &[64, 3]);
-    assert!(rt; board.maxima() == &[64, 3]);
+    assert!(rt; board.counts() == [64, 3].as_slice());
+    assert!(rt; board.maxima() == [64, 3].as_slice());
     Ok(())
 }
