@@ -1,7 +1,7 @@
 -- No byte of a stage's or an entry's line ends it, so that a line is read with its end as it is read alone.
 use Rattle.std.proofs.Common.{◌≡◌, ℕ, ◌<◌, List, [], ◌∷◌, ◌++◌, length, Some, None, codes, decimal, Option, sym, ap, ◌∙◌, arith, rules}
 use Rattle.std.specs.Int.{IsInRange}
-use Rattle.std.specs.List.{AllByRecursion as All}
+use Rattle.std.specs.List.{AllByRecursion}
 use Rattle.std.proofs.lemmas.Fmt.{digits_decimal}
 use Rattle.std.proofs.ByRecursion.{All-get_or, All-from_get_or, All-append, All-weaker}
 use Rattle.forms.proofs.Read.{own}
@@ -17,7 +17,7 @@ use Rattle.arrivals.specs.Lists.{stage_ended}
 
 -- each byte is above the one that ends a line
 abbrev pub Above : List ℕ → Type 0
-Above l = All (λ b. 10 < b) l
+Above l = AllByRecursion (λ b. 10 < b) l
 
 endless : (l : List ℕ) → Above l → Endless l
 endless l h k m is = omega (arith, All-get_or (λ b. 10 < b) l k 0 m h)

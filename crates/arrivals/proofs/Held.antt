@@ -1,6 +1,6 @@
 -- The entries that were read so far, and what is left of the text.
 use Rattle.std.proofs.Common.{◌≡◌, ℕ, ◌+◌, ◌<◌, ◌≤◌, List, [], ◌∷◌, ◌++◌, length, sym, refl, ap, ◌∙◌, inr, append_assoc, arith, length-append}
-use Rattle.std.specs.List.{AllByRecursion as All}
+use Rattle.std.specs.List.{AllByRecursion}
 use Rattle.std.proofs.ByRecursion.{All-push}
 use Rattle.std.proofs.lemmas.List.{append-nil}
 use Rattle.forms.specs.Reading.{Says, SaysNothing, Reading, Unread}
@@ -16,15 +16,15 @@ use Rattle.arrivals.specs.Lists.{stage_ended, entry_ended, entries_ended, entrie
 pub record Left (ns es : List Entry) (rest : List ℕ) : Type 0 where
   pub more : List Entry
   pub split : ns ≡ es ++ more
-  pub fit : All EntryFits more
+  pub fit : AllByRecursion EntryFits more
   pub is : rest ≡ entries_written more
 
 -- `text` is the lines of es and then `rest`, and any entries that `text` may be begin with es
 pub record Held (text rest : List ℕ) (es : List Entry) : Type 0 where
-  pub fit : All EntryFits es
+  pub fit : AllByRecursion EntryFits es
   pub is : text ≡ entries_ended es rest
   pub size : length es + length rest ≤ length text
-  pub only : (ns : List Entry) → All EntryFits ns → text ≡ entries_written ns → Left ns es rest
+  pub only : (ns : List Entry) → AllByRecursion EntryFits ns → text ≡ entries_written ns → Left ns es rest
 
 lines_push : (es : List Entry) (e : Entry) (x : List ℕ) → entries_ended (es ++ (e ∷ [])) x ≡ entries_ended es (entry_ended e x)
 lines_push [] e x = refl
@@ -35,7 +35,7 @@ pub shorter : {A : Type 0} (Fit : A → Type 0) (W : A → List ℕ) {rest q : L
 shorter Fit W {rest} {q} {a} r = omega (arith, ap length r.1, length-append (W a) (10 ∷ q))
 
 left_more : {ns : List Entry} (es : List Entry) {rest q : List ℕ} {e : Entry} → Reading EntryFits entry_ended rest q e
-    → (more : List Entry) → ns ≡ es ++ more → All EntryFits more → rest ≡ entries_written more → Left ns (es ++ (e ∷ [])) q
+    → (more : List Entry) → ns ≡ es ++ more → AllByRecursion EntryFits more → rest ≡ entries_written more → Left ns (es ++ (e ∷ [])) q
 left_more {ns} es {rest} {q} {e} r [] s f is = absurd (omega (arith, ap length is, shorter EntryFits entry_written r))
 left_more {ns} es {rest} {q} {e} r (m ∷ ms) s f is =
     let o = r.2 m (entries_written ms) f.0 is in
@@ -59,7 +59,7 @@ whole_of : {ns es : List Entry} (more : List Entry) → ns ≡ es ++ more → []
 whole_of {ns} {es} [] s is = sym (s ∙ append-nil es)
 whole_of {ns} {es} (m ∷ ms) s is = absurd (omega (arith, ap length is, length-append (entry_written m) (10 ∷ entries_written ms)))
 
-pub held_all : {text rest : List ℕ} {es : List Entry} → Held text rest es → rest ≡ [] → Says (All EntryFits) entries_written text es
+pub held_all : {text rest : List ℕ} {es : List Entry} → Held text rest es → rest ≡ [] → Says (AllByRecursion EntryFits) entries_written text es
 held_all {text} {rest} {es} h e = (
   h.fit,
   h.is ∙ ap (entries_ended es) e,
@@ -67,12 +67,12 @@ held_all {text} {rest} {es} h e = (
 )
 
 -- where no entry is next and something is left, no entries are the text
-stuck : {rest : List ℕ} (more : List Entry) → 0 < length rest → Unread EntryFits entry_ended rest → All EntryFits more → rest ≡ entries_written more → ⊥
+stuck : {rest : List ℕ} (more : List Entry) → 0 < length rest → Unread EntryFits entry_ended rest → AllByRecursion EntryFits more → rest ≡ entries_written more → ⊥
 stuck [] some out f is = omega (arith, ap length is)
 stuck (m ∷ ms) some out f is = out m (entries_written ms) f.0 is
 
 pub held_bad : {text rest : List ℕ} {es : List Entry} {n : ℕ} {fault : LineFault} → Held text rest es → 0 < length rest → n ≡ length es + 2
-    → Unread EntryFits entry_ended rest × Shown fault rest → SaysNothing (All EntryFits) entries_written text × BadEntry n fault text
+    → Unread EntryFits entry_ended rest × Shown fault rest → SaysNothing (AllByRecursion EntryFits) entries_written text × BadEntry n fault text
 held_bad {text} {rest} {es} h some place out = (
   (λ ns f is. let o = h.only ns f is in stuck o.more some out.0 o.fit o.is),
   record { before = es; rest = rest; fit = h.fit; place = place; is = h.is; unread = out.0; shown = out.1 },

@@ -1,6 +1,6 @@
 -- An arrival list: lines that the byte 10 ends, of which the first is a stage's and each other one an entry's.
 use Rattle.std.specs.Prelude.{◌≡◌, ℕ, ◌+◌, ◌<◌, ◌≤◌, ◌⊎◌, List, [], ◌∷◌, ◌++◌, length, vec_items}
-use Rattle.std.specs.List.{AllByRecursion as All}
+use Rattle.std.specs.List.{AllByRecursion}
 use Rattle.forms.specs.Forms.{Lineless}
 use Rattle.forms.specs.Reading.{Unread, SaysNothing}
 use Rattle.forms.specs.Stages.{Stage, StageFits, stage_said}
@@ -35,7 +35,7 @@ list_written p = stage_ended p.0 (entries_written p.1)
 
 -- the stage and each entry are ones that their forms have
 abbrev pub ListFits : Stage × List Entry → Type 0
-ListFits p = StageFits p.0 × All EntryFits p.1
+ListFits p = StageFits p.0 × AllByRecursion EntryFits p.1
 
 -- what a list that was read says
 abbrev pub list_said : ArrivalList → Stage × List Entry
@@ -55,7 +55,7 @@ Shown (Form f) text = Lineless text → ⊥
 pub record BadEntry (n : ℕ) (fault : LineFault) (text : List ℕ) : Type 0 where
   pub before : List Entry
   pub rest : List ℕ
-  pub fit : All EntryFits before
+  pub fit : AllByRecursion EntryFits before
   pub place : n ≡ length before + 2
   pub is : text ≡ entries_ended before rest
   pub unread : Unread EntryFits entry_ended rest
@@ -76,7 +76,7 @@ FirstBad n fault text = ((n ≡ 1) × Unread StageFits stage_ended text × Shown
 -- what the fault says of the text of the entries
 abbrev pub EntriesRefused : ListFault → List ℕ → Type 0
 EntriesRefused TooLong text = ⊥
-EntriesRefused (Line n fault) text = SaysNothing (All EntryFits) entries_written text × BadEntry n fault text
+EntriesRefused (Line n fault) text = SaysNothing (AllByRecursion EntryFits) entries_written text × BadEntry n fault text
 EntriesRefused NoMemory text = Unit {0}
 
 -- what the fault says of the text of a list

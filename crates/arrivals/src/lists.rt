@@ -1,5 +1,5 @@
 ghost use Rattle.std.specs.Prelude.{◌≡◌, ◌<◌, ◌≤◌, length, MatchResult};
-ghost use Rattle.std.specs.List.{AllByRecursion as All};
+ghost use Rattle.std.specs.List.{AllByRecursion};
 ghost use Rattle.forms.specs.Reading.{left, Says, Reading, Unread};
 ghost use Rattle.forms.specs.Stages.{stage_said, StageFits};
 ghost use Rattle.arrivals.specs.Lines.{EntryFits};
@@ -101,7 +101,7 @@ fn entry_line(cursor: &mut Cursor<'_>) -> Result<Entry, LineFault>
 // The entries of the lines after the first.
 fn read_entries(heap: Global, text: &[u8]) -> Result<Vec<Entry>, ListFault>
     requires { length text.now ≤ most_bytes }
-    ensures { MatchResult result (λ es. Says (All EntryFits) entries_written text.now es.items) (λ e. EntriesRefused e text.now) }
+    ensures { MatchResult result (λ es. Says (AllByRecursion EntryFits) entries_written text.now es.items) (λ e. EntriesRefused e text.now) }
 {
     let mut cursor = Cursor { rest: text };
     let mut entries = Vec::new(heap);

@@ -1,7 +1,7 @@
 -- Numbers, words and lines, as they are written: a reader is the inverse.
 use Rattle.std.specs.Prelude.{◌≡◌, ℕ, ◌^◌, ◌<◌, ◌≤◌, List, ◌∷◌, ◌++◌, length, decimal, ◌≢◌, slice_index}
 use Rattle.std.specs.Int.{IsInRange}
-use Rattle.std.specs.List.{AllByRecursion as All}
+use Rattle.std.specs.List.{AllByRecursion}
 
 -- the text does not go on with a byte from lo to hi
 abbrev pub Ends : ℕ → ℕ → List ℕ → Type 0
@@ -25,7 +25,7 @@ Numberless text = (n : ℕ) (rest : List ℕ) → Numbered n rest text → ⊥
 
 -- 1 to 12 small letters
 abbrev pub Word : List ℕ → Type 0
-Word w = (0 < length w) × (length w ≤ 12) × All (IsInRange 97 122) w
+Word w = (0 < length w) × (length w ≤ 12) × AllByRecursion (IsInRange 97 122) w
 
 -- `text` is the word w and then `rest`, which does not go on with a small letter
 abbrev pub Worded : List ℕ → List ℕ → List ℕ → Type 0

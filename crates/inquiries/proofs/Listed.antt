@@ -1,12 +1,12 @@
 -- A list of numbers, each after a space and the last before a bracket.
 use Rattle.std.proofs.Common.{◌≡◌, ℕ, suc, ◌+◌, ◌^◌, ◌<◌, ◌≤◌, List, [], ◌∷◌, ◌++◌, length, take, set, codes, decimal, sym, refl, ap, ◌∙◌, append_assoc, arith, length-append, length-set}
-use Rattle.std.specs.List.{AllByRecursion as All}
+use Rattle.std.specs.List.{AllByRecursion}
 use Rattle.std.proofs.lemmas.List.{take_more_set, flat_map_more, append-nil, length-take-le}
 use Rattle.forms.specs.Forms.{Numbered, OnlyNumber}
 use Rattle.inquiries.specs.Inquiry.{spaced}
 
 abbrev pub Low : List ℕ → Type 0
-Low ns = All (λ n. n < 10 ^ 7) ns
+Low ns = AllByRecursion (λ n. n < 10 ^ 7) ns
 
 -- what is left of ns after xs, where the text of ns and a bracket begins with that of xs and `rest` follows
 pub record Left (ns xs : List ℕ) (x rest : List ℕ) : Type 0 where

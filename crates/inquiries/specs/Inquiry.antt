@@ -1,6 +1,6 @@
 -- The three lines of an inquiry. The text of each is written before what follows it, x.
 use Rattle.std.specs.Prelude.{◌≡◌, ℕ, zero, suc, ◌<◌, ◌≤◌, List, [], ◌∷◌, ◌++◌, length, take, codes, decimal, ◌≢◌}
-use Rattle.std.specs.List.{flat_map, AllByRecursion as All}
+use Rattle.std.specs.List.{flat_map, AllByRecursion}
 use Rattle.forms.specs.Forms.{Low}
 use Rattle.forms.specs.Reading.{Unread}
 use Rattle.inquiries.specs.Names.{control_name, AnyName}
@@ -26,7 +26,7 @@ cards_text ns x = codes "(cards" ++ (spaced ns ++ (codes ")\n" ++ x))
 
 -- 1 to 16 counts of at most 7 digits each
 abbrev pub CountsFit : List ℕ → Type 0
-CountsFit ns = All Low ns × (0 < length ns) × (length ns ≤ 16)
+CountsFit ns = AllByRecursion Low ns × (0 < length ns) × (length ns ≤ 16)
 
 -- the counts that were read
 abbrev pub counts_of : Counts → List ℕ
