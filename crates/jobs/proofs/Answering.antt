@@ -1,10 +1,10 @@
 -- What is kept from entry to entry of a job.
-use Rattle.std.proofs.Common.{◌≡◌, ℕ, zero, suc, ◌+◌, ◌<◌, ◌≤◌, Bool, false, List, [], ◌∷◌, ◌++◌, length, get_or, drop, Some, None, Ok, Err, Option, sym, refl, ap, ◌∙◌, subst, append_assoc, append-nil, add-one, arith, length-append, drop-cons}
+use Rattle.std.proofs.Common.{◌≡◌, ℕ, zero, suc, ◌+◌, ◌<◌, ◌≤◌, Bool, false, List, [], ◌∷◌, ◌++◌, length, get_or, drop, Some, None, Ok, Option, sym, refl, ap, ◌∙◌, subst, append_assoc, append-nil, add-one, arith, length-append, drop-cons}
 use Rattle.std.proofs.lemmas.Bool.{ltb-false}
 use Rattle.calendar.specs.Clock.{E}
 use Rattle.arrivals.specs.declared.lines.Entry.{Entry}
 use Rattle.arrivals.specs.declared.lines.Entry.TheVariants.{Arrive, Fresh}
-use Rattle.stations.specs.Load.{number, refusal, Loaded}
+use Rattle.stations.specs.Load.{refusal, Loaded}
 use Rattle.stations.specs.Rule.{Rule, Meaning, Rising, Lawful, before, freshened}
 use Rattle.stations.specs.Layering.{granted}
 use Rattle.jobs.specs.Run.{Step, Worked, Answered}

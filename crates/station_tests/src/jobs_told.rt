@@ -1,8 +1,9 @@
 use jobs::whole::do_job;
+use std::process::Abort;
 use std::test::*;
 
 // What is told of a job: its answers, or its fault.
-fn told(rt: &HostRuntime, text: &[u8]) -> Result<String, Fail> {
+fn told(rt: &impl AllocGlobal, text: &[u8]) -> Result<String, Fail> {
     match do_job(rt.alloc(), text) {
         Ok(job) => {
             let mut lines = String::new(rt.alloc());
@@ -17,9 +18,9 @@ fn told(rt: &HostRuntime, text: &[u8]) -> Result<String, Fail> {
     }
 }
 
-fn tells(rt: &HostRuntime, text: &[u8], expected: &str) -> Result<(), Fail> {
+fn tells(rt: &(impl Abort + AllocGlobal), text: &[u8], expected: &str) -> Result<(), Fail> {
     let found = told(rt, text)?;
-    assert!(found.as_str() == expected, "{}", expected);
+    assert!(rt; found.as_str() == expected, "{}", expected);
     Ok(())
 }
 

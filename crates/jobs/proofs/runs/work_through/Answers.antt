@@ -14,9 +14,9 @@ loop-asked-init g c = (
 pub loop-asked-preserved : goal.loop-asked-preserved
 loop-asked-preserved g c = (
   keeps_more _ c.args.entries.now c.loop-asked.asked-index _ _ _ _ _ _ (g.met.S.Station.lawful c.fresh.new.self) c.loop-asked-test.true
-      c.answer.ensures c.in-ok-push.ensures.items c.loop-asked.invariant.0,
+      c.answer.ensures c.in_ok-push.ensures.items c.loop-asked.invariant.0,
   goes_more (g.S.Station.meaning c.fresh.new.self) c.args.entries.now c.loop-asked.asked-index _ _ _ _ _ _ c.loop-asked-test.true
-      c.answer.ensures c.in-ok-push.ensures.items c.loop-asked.invariant.1,
+      c.answer.ensures c.in_ok-push.ensures.items c.loop-asked.invariant.1,
 )
 
 pub returns : goal.returns

@@ -12,5 +12,5 @@ returns-in-Setting-clause-writes g c =
       ← c.piece.ensures,
       ← c.word-piece.ensures,
       ← c.value-value.ensures,
-      ← c.setting-reason-reason.ensures,
+      ← c.setting_reason-reason.ensures,
     ) c.write-in-Setting.ensures.writes
