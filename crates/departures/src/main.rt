@@ -1,11 +1,11 @@
 // Tells for each part of an arrival list when it leaves the station, or why it is refused.
 #![tactic(auto)]
 
-use anyhow::anyhow;
 use forms::stages::{CoreForm, StageForm};
 use jobs::whole::{Job, do_job};
 use std::io;
 use std::io::Read;
+use std::process::ExitCode;
 
 // One byte more than an arrival list may have, so that a longer input is known to be too long.
 const MOST_READ: u64 = 16_385;
@@ -42,15 +42,17 @@ fn tell_job(rt: &HostRuntime, job: &Job<'_>) -> io::Result<()> {
     Ok(())
 }
 
-fn main(rt: HostRuntime) -> anyhow::Result<()> {
+fn main(rt: HostRuntime) -> io::Result<ExitCode> {
     let mut text = Vec::new(rt.alloc());
     rt.stdin().take(MOST_READ).read_to_end(&mut text)?;
     match do_job(rt.alloc(), text.as_slice()) {
-        Ok(job) => tell_job(&rt, &job)?,
+        Ok(job) => {
+            tell_job(&rt, &job)?;
+            Ok(ExitCode::SUCCESS)
+        }
         Err(fault) => {
             eprintln!(rt; "{fault}")?;
-            return Err(anyhow!("the job is not done"));
+            Ok(ExitCode::FAILURE)
         }
     }
-    Ok(())
 }

@@ -4,7 +4,6 @@
 mod sample;
 mod tables;
 
-use anyhow::anyhow;
 use controls::base::Base;
 use controls::control::Control;
 use controls::extended::Extended;
@@ -20,15 +19,16 @@ use sample::{BOOKINGS, SampleRow, sample_row, tell_row};
 use stations::numbers::PartNo;
 use std::io;
 use std::io::Read;
+use std::process::ExitCode;
 use tables::tell_sheet;
 
 // More than any inquiry has.
 const MOST_READ: u64 = 1_024;
 
 // Tells why a step was refused, and ends.
-fn refused(rt: &HostRuntime, step: &str, number: u32) -> anyhow::Result<()> {
+fn refused(rt: &HostRuntime, step: &str, number: u32) -> io::Result<ExitCode> {
     eprintln!(rt; "{step}: refused {number}")?;
-    Err(anyhow!("the line is not run"))
+    Ok(ExitCode::FAILURE)
 }
 
 // Books the sample parts, and tells each.
@@ -79,13 +79,13 @@ fn run_parts<C: Control>(
     stages: u32,
     book: &Book,
     board: &Board,
-) -> anyhow::Result<()> {
+) -> io::Result<ExitCode> {
     let mut sheet = vec![in rt.alloc(); 0; 25 * 128]?;
     match line.run(book, board, &mut sheet) {
         Ok((missed, first)) => {
             tell_answer(rt, book.parts().len(), missed, first)?;
             tell_sheet(rt, stages, book.parts(), &sheet)?;
-            Ok(())
+            Ok(ExitCode::SUCCESS)
         }
         Err(fault) => refused(rt, "run", fault.number()),
     }
@@ -96,7 +96,7 @@ fn fill_book<C: Control>(
     rt: &HostRuntime,
     line: &mut Line<SampleRow, C>,
     inquiry: &Inquiry,
-) -> anyhow::Result<()> {
+) -> io::Result<ExitCode> {
     let board = match Board::new(rt.alloc(), inquiry.counts.as_slice()) {
         Ok(board) => board,
         Err(fault) => return refused(rt, "board", fault.number()),
@@ -115,7 +115,7 @@ fn make_line<C: Control + Drop>(
     rt: &HostRuntime,
     control: C,
     inquiry: &Inquiry,
-) -> anyhow::Result<()> {
+) -> io::Result<ExitCode> {
     let stages = inquiry.stages;
     let name = inquiry.control.word();
     let row = match sample_row() {
@@ -132,7 +132,7 @@ fn make_line<C: Control + Drop>(
     }
 }
 
-fn main(rt: HostRuntime) -> anyhow::Result<()> {
+fn main(rt: HostRuntime) -> io::Result<ExitCode> {
     let mut text = Vec::new(rt.alloc());
     rt.stdin().take(MOST_READ).read_to_end(&mut text)?;
     match read_inquiry(text.as_slice()) {

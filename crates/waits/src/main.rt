@@ -3,7 +3,6 @@
 
 mod words;
 
-use anyhow::anyhow;
 use controls::base::Base;
 use controls::control::Control;
 use controls::events::Event;
@@ -16,6 +15,7 @@ use inquiries::reading::{Inquiry, InquiryFault, read_inquiry};
 use stations::numbers::StageNo;
 use std::io;
 use std::io::Read;
+use std::process::ExitCode;
 use words::{EventWords, WaitWords};
 
 // More than any inquiry has.
@@ -94,10 +94,10 @@ fn tell<C: Control>(rt: &HostRuntime, control: &C, inquiry: &Inquiry) -> io::Res
 }
 
 // Answers an inquiry about a line of 1 to 8 stages.
-fn answer(rt: &HostRuntime, inquiry: &Inquiry) -> anyhow::Result<()> {
+fn answer(rt: &HostRuntime, inquiry: &Inquiry) -> io::Result<ExitCode> {
     if inquiry.stages < 1 || inquiry.stages > 8 {
         eprintln!(rt; "line 2 refused 5: the stages are not 1 to 8")?;
-        return Err(anyhow!("the inquiry is not answered"));
+        return Ok(ExitCode::FAILURE);
     }
     match inquiry.control {
         ControlName::Base => tell(rt, &Base, inquiry)?,
@@ -105,18 +105,18 @@ fn answer(rt: &HostRuntime, inquiry: &Inquiry) -> anyhow::Result<()> {
         ControlName::General => tell(rt, &General, inquiry)?,
         ControlName::Extended => tell(rt, &Extended, inquiry)?,
     }
-    Ok(())
+    Ok(ExitCode::SUCCESS)
 }
 
 // Tells why a text is no inquiry.
-fn refuse(rt: &HostRuntime, fault: InquiryFault) -> anyhow::Result<()> {
+fn refuse(rt: &HostRuntime, fault: InquiryFault) -> io::Result<ExitCode> {
     let line = fault.line;
     let reason = fault.fault.reason();
     eprintln!(rt; "line {line} refused 16: {reason}")?;
-    Err(anyhow!("the inquiry is not answered"))
+    Ok(ExitCode::FAILURE)
 }
 
-fn main(rt: HostRuntime) -> anyhow::Result<()> {
+fn main(rt: HostRuntime) -> io::Result<ExitCode> {
     let mut text = Vec::new(rt.alloc());
     rt.stdin().take(MOST_READ).read_to_end(&mut text)?;
     match read_inquiry(text.as_slice()) {
