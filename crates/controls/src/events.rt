@@ -1,7 +1,7 @@
 use stations::numbers::StageNo;
 
-// What happens to each part.
-#[derive(Clone, Copy, PartialEq, Eq, Debug)]
+// What happens to each part. Every line has a delivery.
+#[derive(Clone, Copy, PartialEq, Eq, Debug, Default)]
 pub enum Event {
     // The call is passed on to the stage.
     Pass(StageNo),
@@ -10,6 +10,7 @@ pub enum Event {
     // The stage is done with the part.
     Completion(StageNo),
     // The part is handed out.
+    #[default]
     Delivery,
 }
 

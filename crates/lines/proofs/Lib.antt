@@ -1,8 +1,7 @@
 pub mod Ends
-pub mod FewWaits
-pub mod Granting
+pub mod FromFn
+pub mod Kept
 pub mod Loads
-pub mod Missing
 pub mod Ordering
 pub mod Placing
 pub mod Planning

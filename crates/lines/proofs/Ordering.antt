@@ -15,7 +15,8 @@ use Rattle.lines.specs.Sheet.{row_of}
 use Rattle.lines.specs.Asked.{asked}
 use Rattle.lines.specs.Order.{SourcePlaced, Ready, placed_by, Next, among, Follows, Begun, InOrder, Orderly}
 use Rattle.controls.proofs.Basics.{each_map₂}
-use Rattle.lines.proofs.Placing.{all_placed}
+use Rattle.lines.proofs.Kept.{inside_of, steps_of}
+use Rattle.lines.proofs.Placing.{all_placed_by}
 
 -- how many flags are down
 abbrev pub downs : List Bool → ℕ
@@ -88,30 +89,29 @@ follows_next N waits flags es e tells inside e_in new ready = record {
 }
 
 -- where it found none, all is placed
-pub in_order : (N : ℕ) (told : List (List (Option Wait))) (flags : List Bool) (es : List Event) → Orderly N told → Shows N flags es → Begun N (asked N told) es →
+pub in_order : (N : ℕ) (told : List (List (Option Wait))) (flags : List Bool) (es : List Event) → ∥ Orderly N told ∥₁ → Shows N flags es → Begun N (asked N told) es →
     ((e : Event) → InLine N e → Ready (asked N told) (placed_by N flags) e → placed_by N flags e ≡ true) → InOrder N (asked N told) es
-in_order N told flags es orderly tells begun stuck = record {
+in_order N told flags es kept tells begun stuck = record {
   begun = begun;
-  all = λ e e_in. sym (tells e e_in) ∙ all_placed orderly.steps orderly.inside (placed_by N flags) stuck e e_in;
+  all = λ e e_in. sym (tells e e_in) ∙ all_placed_by (steps_of N told kept) (inside_of N told kept) (placed_by N flags) stuck e e_in;
 }
 
 -- what holds at the start of a turn
-abbrev pub Turn : ℕ → (Event → List Wait) → List Bool → List Event → ℕ → Type 0
-Turn N waits flags events count = (length flags ≡ 25) × (length events ≡ 25) × (count + downs flags ≡ 25) × Shows N flags (take count events) × Begun N waits (take count events)
+abbrev pub Turn : ℕ → (Event → List Wait) → List Bool → List Event → Type 0
+Turn N waits flags es = (length flags ≡ 25) × (length es + downs flags ≡ 25) × Shows N flags es × Begun N waits es
 
-pub turn_down : (N : ℕ) (waits : Event → List Wait) (flags : List Bool) (events : List Event) (count : ℕ) (e : Event) (r : ℕ) → Turn N waits flags events count →
+pub turn_down : (N : ℕ) (waits : Event → List Wait) (flags : List Bool) (es : List Event) (e : Event) (r : ℕ) → Turn N waits flags es →
     Next N waits (placed_by N flags) (Some e) → r ≡ row_of N e → r < 25 → downs (set flags r true) + 1 ≡ downs flags
-turn_down N waits flags events count e r t found is lt = downs_set flags r (omega arith) (ap (λ x. get_or flags x false) is ∙ found.1)
+turn_down N waits flags es e r t found is lt = downs_set flags r (omega arith) (ap (λ x. get_or flags x false) is ∙ found.1)
 
-pub turn_more : (N : ℕ) (waits : Event → List Wait) (flags : List Bool) (events : List Event) (count : ℕ) (e : Event) (r : ℕ) → Turn N waits flags events count →
+pub turn_more : (N : ℕ) (waits : Event → List Wait) (flags : List Bool) (es : List Event) (e : Event) (r : ℕ) → Turn N waits flags es →
     ((e : Event) → InLine N e → Waits e → Each (SourceIn N) (waits e)) → Next N waits (placed_by N flags) (Some e) → r ≡ row_of N e → r < 25 →
-    Turn N waits (set flags r true) (set events count e) (count + 1)
-turn_more N waits flags events count e r t inside found is lt =
-    let down = turn_down N waits flags events count e r t found is lt in
-    let more : take (count + 1) (set events count e) ≡ take count events ++ (e ∷ []) = take_more_set events count e (omega arith) in (
+    Turn N waits (set flags r true) (es ++ (e ∷ []))
+turn_more N waits flags es e r t inside found is lt =
+    let down = turn_down N waits flags es e r t found is lt in
+    let more = length-append es (e ∷ []) in (
       length-set flags r true ∙ t.0,
-      length-set events count e ∙ t.1,
       omega arith,
-      subst₂ (Shows N) (ap (λ x. set flags x true) (sym is)) (sym more) (tells_more N flags (take count events) e (omega arith) t.3),
-      subst (Begun N waits) (sym more) (begun_more N waits (take count events) e t.4 (follows_next N waits flags (take count events) e t.3 inside found.0 found.1 found.2)),
+      subst (λ x. Shows N (set flags x true) (es ++ (e ∷ []))) (sym is) (tells_more N flags es e (omega arith) t.2),
+      begun_more N waits es e t.3 (follows_next N waits flags es e t.2 inside found.0 found.1 found.2),
     )

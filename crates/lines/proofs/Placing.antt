@@ -1,5 +1,5 @@
 -- Where nothing more can be placed, all is placed.
-use Rattle.std.proofs.Common.{◌≡◌, ℕ, zero, suc, ◌+◌, ◌<◌, Bool, true, false, List, [], ◌∷◌, length, get_or, Some, None, Option, sym, refl, ap, ◌∙◌, subst, inl, inr, suc-le-suc, not-suc-le-zero, lt-suc_self, arith}
+use Rattle.std.proofs.Common.{◌≡◌, ℕ, zero, suc, ◌+◌, ◌<◌, Bool, true, false, ◌&&◌, List, [], ◌∷◌, length, get_or, Some, None, Option, sym, refl, ap, ◌∙◌, subst, inl, inr, suc-le-suc, not-suc-le-zero, lt-suc_self, arith}
 use Rattle.stations.specs.declared.numbers.StageNo.{StageNo}
 use Rattle.controls.specs.declared.events.Event.{Event}
 use Rattle.controls.specs.declared.events.Event.TheVariants.{Pass, Release, Completion, Delivery}
@@ -8,10 +8,13 @@ use Rattle.controls.specs.declared.events.Wait.TheVariants.{Call, After}
 use Rattle.controls.specs.Lists.{Each, somes}
 use Rattle.controls.specs.Control.{StepFits, Steps}
 use Rattle.controls.specs.Events.{InLine, Waits, SourceIn}
-use Rattle.lines.specs.Asked.{Told, asked}
+use Rattle.lines.specs.Asked.{asked}
 use Rattle.lines.specs.Order.{SourcePlaced, Ready, source_placed}
 use Rattle.lines.specs.Sheet.{row_of}
-use Rattle.std.proofs.lemmas.Bool.{cases_eq}
+use Rattle.std.specs.List.{list_all}
+use Rattle.std.proofs.Math.Bool.{Bool-set}
+use Rattle.std.proofs.Math.Logic.{∥∥₁_elim}
+use Rattle.std.proofs.lemmas.Bool.{cases_eq, and_parts}
 use Rattle.controls.proofs.Basics.{each_map₂}
 
 module _ {N : ℕ} {waits : Event → List Wait} (steps : Steps N waits)
@@ -40,33 +43,31 @@ module _ {N : ℕ} {waits : Event → List Wait} (steps : Steps N waits)
   below_all zero e e_in h = absurd (not-suc-le-zero h)
   below_all (suc k) e e_in h = one_more k (below_all k) e e_in h
 
-  pub all_placed : (e : Event) → InLine N e → p e ≡ true
+  all_placed : (e : Event) → InLine N e → p e ≡ true
   unfolding Below
   all_placed e e_in = below_all (suc (steps.step e)) e e_in (lt-suc_self (steps.step e))
 
-pub told_each : (P : Wait → Type 0) (os : List (Option Wait)) → Each P (somes os) → (k : ℕ) → Told P (get_or os k None)
-told_each P [] h k = tt
-told_each P (None ∷ os) h zero = tt
-told_each P (None ∷ os) h (suc k) = told_each P os h k
-told_each P (Some w ∷ os) h zero = h.0
-told_each P (Some w ∷ os) h (suc k) = told_each P os h.1 k
+-- the same, whatever the steps are
+pub all_placed_by :
+    {N : ℕ} {waits : Event → List Wait} → ∥ Steps N waits ∥₁ → ((e : Event) → InLine N e → Waits e → Each (SourceIn N) (waits e))
+    → (p : Event → Bool) → ((e : Event) → InLine N e → Ready waits p e → p e ≡ true) → (e : Event) → InLine N e → p e ≡ true
+all_placed_by kept inside p stuck e e_in = ∥∥₁_elim kept (Bool-set (p e) true) (λ steps. all_placed steps inside p stuck e e_in)
 
-pub each_told : (P : Wait → Type 0) (os : List (Option Wait)) → ((k : ℕ) → k < length os → Told P (get_or os k None)) → Each P (somes os)
-each_told P [] h = tt
-each_told P (None ∷ os) h = each_told P os (λ k l. h (suc k) (suc-le-suc l))
-each_told P (Some w ∷ os) h = (h 0 (omega arith), each_told P os (λ k l. h (suc k) (suc-le-suc l)))
+-- the test tells whether all sources of lag 0 are placed
+pub placed_each : (p : Event → Bool) (os : List (Option Wait)) → list_all (source_placed p) os ≡ true → Each (SourcePlaced p) (somes os)
+placed_each p [] h = tt
+placed_each p (None ∷ os) h = placed_each p os h
+placed_each p (Some Call ∷ os) h = (tt, placed_each p os h)
+placed_each p (Some (After s zero) ∷ os) h =
+    let both = and_parts (p s) (list_all (source_placed p) os) h in (λ z. both.0, placed_each p os both.1)
+placed_each p (Some (After s (suc L)) ∷ os) h = (λ z. absurd (omega arith), placed_each p os h)
 
-pub placed_told : (p : Event → Bool) (o : Option Wait) → source_placed p o ≡ true → Told (SourcePlaced p) o
-placed_told p None h = tt
-placed_told p (Some Call) h = tt
-placed_told p (Some (After s zero)) h = λ z. h
-placed_told p (Some (After s (suc L))) h = λ z. absurd (omega arith)
-
-pub told_placed : (p : Event → Bool) (o : Option Wait) → Told (SourcePlaced p) o → source_placed p o ≡ true
-told_placed p None h = refl
-told_placed p (Some Call) h = refl
-told_placed p (Some (After s zero)) h = h refl
-told_placed p (Some (After s (suc L))) h = refl
+pub each_placed : (p : Event → Bool) (os : List (Option Wait)) → Each (SourcePlaced p) (somes os) → list_all (source_placed p) os ≡ true
+each_placed p [] h = refl
+each_placed p (None ∷ os) h = each_placed p os h
+each_placed p (Some Call ∷ os) h = each_placed p os h.1
+each_placed p (Some (After s zero) ∷ os) h = ap (λ b. b && list_all (source_placed p) os) (h.0 refl) ∙ each_placed p os h.1
+each_placed p (Some (After s (suc L)) ∷ os) h = each_placed p os h.1
 
 pub ready_waits : (waits : Event → List Wait) (p : Event → Bool) (e : Event) → Waits e → Each (SourcePlaced p) (waits e) → Ready waits p e
 ready_waits waits p (Pass i) w h = h
@@ -80,18 +81,16 @@ waits_ready waits p (Release i) w h = h
 waits_ready waits p (Completion i) w h = absurd w
 waits_ready waits p Delivery w h = h
 
--- every wait passes the test
-pub all_ready :
-    (waits : Event → List Wait) (p : Event → Bool) (e : Event) → Waits e → (os : List (Option Wait)) → somes os ≡ waits e
-    → ((k : ℕ) → k < length os → source_placed p (get_or os k None) ≡ true) → Ready waits p e
-all_ready waits p e w os same h =
-    ready_waits waits p e w (subst (Each (SourcePlaced p)) same (each_told (SourcePlaced p) os (λ k l. placed_told p (get_or os k None) (h k l))))
+-- an event is ready if its waits pass the test, and only then
+pub ready_if :
+    (N : ℕ) (told : List (List (Option Wait))) (p : Event → Bool) (e : Event) → Waits e
+    → list_all (source_placed p) (get_or told (row_of N e) []) ≡ true → Ready (asked N told) p e
+ready_if N told p e w h = ready_waits (asked N told) p e w (placed_each p (get_or told (row_of N e) []) h)
 
-pub ready_all :
-    (waits : Event → List Wait) (p : Event → Bool) (e : Event) → Waits e → (os : List (Option Wait)) → somes os ≡ waits e
-    → Ready waits p e → (k : ℕ) → source_placed p (get_or os k None) ≡ true
-ready_all waits p e w os same r k =
-    told_placed p (get_or os k None) (told_each (SourcePlaced p) os (subst (Each (SourcePlaced p)) (sym same) (waits_ready waits p e w r)) k)
+pub if_ready :
+    (N : ℕ) (told : List (List (Option Wait))) (p : Event → Bool) (e : Event) → Waits e → Ready (asked N told) p e
+    → list_all (source_placed p) (get_or told (row_of N e) []) ≡ true
+if_ready N told p e w r = each_placed p (get_or told (row_of N e) []) (waits_ready (asked N told) p e w r)
 
 pub same_stage : (i j : StageNo) → i.0 ≡ j.0 → i ≡ j
 same_stage i j h = λ k. record { 0 = h k }
@@ -129,21 +128,3 @@ looked N waits p r f f-in at before here e e_in l ready =
       | inl q ↦ let same : f ≡ e = same_row N f e f-in e_in (omega arith) in subst (λ x. Ready waits p x → p x ≡ true) same here ready
       | inr d ↦ before e e_in (omega arith) ready
     ]
-
--- the waits that stand in the row r
-pub told_in :
-    (N : ℕ) (told : List (List (Option Wait))) (e : Event) (r : ℕ) → r ≡ row_of N e → Each (SourceIn N) (asked N told e)
-    → (k : ℕ) → Told (SourceIn N) (get_or (get_or told r []) k None)
-told_in N told e r is h k =
-    subst (λ x. Told (SourceIn N) (get_or (get_or told x []) k None)) (sym is) (told_each (SourceIn N) (get_or told (row_of N e) []) h k)
-
-pub row_ready :
-    (N : ℕ) (told : List (List (Option Wait))) (p : Event → Bool) (e : Event) (r : ℕ) → r ≡ row_of N e → Waits e
-    → ((k : ℕ) → k < length (get_or told r []) → source_placed p (get_or (get_or told r []) k None) ≡ true) → Ready (asked N told) p e
-row_ready N told p e r is w h = all_ready (asked N told) p e w (get_or told r []) (ap (λ x. somes (get_or told x [])) is) h
-
-pub not_ready :
-    (N : ℕ) (told : List (List (Option Wait))) (p : Event → Bool) (e : Event) (r : ℕ) → r ≡ row_of N e → Waits e
-    → (k : ℕ) (b : Bool) → b ≡ source_placed p (get_or (get_or told r []) k None) → b ≡ false → Ready (asked N told) p e → false ≡ true
-not_ready N told p e r is w k b tells failed h =
-    sym failed ∙ tells ∙ ready_all (asked N told) p e w (get_or told r []) (ap (λ x. somes (get_or told x [])) is) h k

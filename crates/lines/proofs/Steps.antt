@@ -5,6 +5,8 @@ use borrow.Author.Tests.{clash}
 use Rattle.std.proofs.lemmas.Nat.{div-mul-add, mod-mul-add}
 use Rattle.std.proofs.lemmas.List.{get_or-set_same, get_or-set_other, take_more, drop-set-lt}
 use Rattle.std.proofs.lemmas.Bool.{cases_eq}
+use Rattle.std.proofs.Math.Logic.{∥∥₁_elim}
+use Rattle.std.specs.Coded.{le_prop}
 use Rattle.calendar.specs.Clock.{E}
 use Rattle.stations.specs.declared.numbers.StageNo.{StageNo}
 use Rattle.stations.specs.Lists.{at}
@@ -54,6 +56,10 @@ filled_up_to N waits parts m p more ready = record {
     now : (n : ℕ) → n ≡ suc m → (w : Wait) → SourcePlaced p w → SourceKnown (UpTo m p) n w
     now n is Call h = tt
     now n is (After s L) h = elim (ℕ_discrete L 0) [ yes z ↦ inr (omega arith, h z) | no nz ↦ inl (omega arith) ]
+
+rising_prop : (low : ℕ) (xs : List ℕ) → IsProp (Rising low xs)
+rising_prop low [] p q = λ i. tt
+rising_prop low (x ∷ xs) p q = λ i. (le_prop p.0 q.0 i, le_prop p.1 q.1 i, rising_prop x xs p.2 q.2 i)
 
 apart : (a b n i j : ℕ) → i < n → j < n → ¬ ((a ≡ b) × (i ≡ j)) → ¬ (a * n + i ≡ b * n + j)
 apart a b n i j hi hj d e =
@@ -179,7 +185,7 @@ module _ (N : ℕ) (waits : Event → List Wait) (begun : List Station) (calls f
   }
 
   -- a completion: the release of the part is loaded, and the departure written
-  module _ (steps : Steps N waits) (called : Rising 0 calls) (i : StageNo) (s : Completion i ≡ e) (ms : List Station)
+  module _ (stepped : ∥ Steps N waits ∥₁) (called : Rising 0 calls) (i : StageNo) (s : Completion i ≡ e) (ms : List Station)
       (a : ℕ) (is : a ≡ get_or sheet (row_of N (Release i) * length calls + m) 0) (run : Running N waits begun calls first m p sheet ms) where
     i_in : IsStage N i
     i_in = subst (InLine N) (sym s) turn.e_in
@@ -197,7 +203,8 @@ module _ (N : ℕ) (waits : Event → List Wait) (begun : List Station) (calls f
         ap (λ x. take x R) k ∙ take_more R m 0 (omega arith) ∙ ap (λ x. take m R ++ x ∷ []) g
 
     ok : Rising 0 (take m (rows N (length calls) sheet (Release i)) ++ a ∷ [])
-    ok = subst (Rising 0) grown (releases_rising run.times filled steps turn.inside run.lawful called i (suc m) i_in (inr (refl, released)))
+    ok = subst (Rising 0) grown
+        (∥∥₁_elim stepped (rising_prop 0 _) (λ steps. releases_rising run.times filled steps turn.inside run.lawful called i (suc m) i_in (inr (refl, released))))
 
     so_far : LoadedWith (fresh_rules begun i) (take m (rows N (length calls) sheet (Release i))) (station ms i)
     so_far =

@@ -108,7 +108,7 @@ module _ (N : ℕ) (waits : Event → List Wait) (es : List Event) (order : InOr
         (waited N waits begun (calls book) first m (among N (take k es)) (among N (take (k + 1) es)) sheet (get_or es k Delivery) v
         (turn_of inside book sheet m k hm wide hk) ms (subst Waits is-e we) is' run)
 
-    module _ (steps : Steps N waits) (called : Rising 0 (calls book)) (i : StageNo) (is-i : e ≡ Completion i) (r' : ℕ) (is-r' : r' ≡ row_of N (Release i)) where
+    module _ (steps : ∥ Steps N waits ∥₁) (called : Rising 0 (calls book)) (i : StageNo) (is-i : e ≡ Completion i) (r' : ℕ) (is-r' : r' ≡ row_of N (Release i)) where
       arrival : get_or sheet (r' * length book + m) 0 ≡ get_or sheet (row_of N (Release i) * length (calls book) + m) 0
       arrival =
           ap (λ x. get_or sheet (x * length book + m) 0) is-r' ∙ ap (λ x. get_or sheet (row_of N (Release i) * x + m) 0) (sym as_long)

@@ -13,8 +13,3 @@ asked N told e = somes (slice_index_or told (row_of N e) [])
 pub record Tells (N : ℕ) (waits : Event → List Wait) (told : List (List (Option Wait))) : Type 0 where
   pub all : (e : Event) → InLine N e → asked N told e ≡ waits e
   pub few : (row : ℕ) → length (slice_index_or told row []) ≤ 3
-
--- P holds of the wait, if there is one.
-abbrev pub Told : (Wait → Type 0) → Option Wait → Type 0
-Told P None = Unit
-Told P (Some w) = P w

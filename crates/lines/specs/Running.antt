@@ -11,24 +11,9 @@ use Rattle.ledger.specs.declared.bookings.Booking.{Booking}
 use Rattle.lines.specs.declared.plans.Plan.{Plan}
 use Rattle.lines.specs.Asked.{asked}
 use Rattle.lines.specs.Missed.{calls}
-use Rattle.lines.specs.Order.{Orderly, among, InOrder}
+use Rattle.lines.specs.Order.{among}
 use Rattle.lines.specs.Sheet.{rows, room}
 use Rattle.lines.specs.Stations.{station, fresh_rules, LoadedWith}
-
--- The waits and the order of a plan fit each other.
-pub record Planned (plan : Plan) : Type 0 where
-  pub few : plan.stages ≤ 8
-  pub orderly : Orderly plan.stages plan.told
-  pub sized : length plan.events ≡ 25
-  pub events_few : plan.count ≤ 25
-  pub order : InOrder plan.stages (asked plan.stages plan.told) (take plan.count plan.events)
-
--- The plan can be run for the booked parts on the sheet.
-pub record Runnable (plan : Plan) (book : List Booking) (sheet : List ℕ) : Type 0 where
-  pub planned : Planned plan
-  pub called : Rising 0 (calls book)
-  pub parts_few : length book ≤ 128
-  pub wide : room plan.stages (length book) ≤ length sheet
 
 -- The minute that a wait of part n ends, 0 where there is no wait.
 abbrev pub told_end : List ℕ → Table → ℕ → Option Wait → ℕ
@@ -50,13 +35,17 @@ pub record Running
       → LoadedWith (fresh_rules begun i) (take (cond (p (Completion i)) (suc m) m) (rows N (length called) sheet (Release i))) (station ms i)
   pub idle : (i : StageNo) → N < i.0 → station ms i ≡ station begun i
 
+-- The waits of a plan.
+abbrev pub plan_waits : Plan → Event → List Wait
+plan_waits plan = asked plan.table.stages.count plan.table.told
+
 -- The first k events of a plan.
 abbrev pub placed : Plan → ℕ → Event → Bool
-placed plan k = among plan.stages (take k (take plan.count plan.events))
+placed plan k = among plan.table.stages.count (take k plan.events.items)
 
 -- The same of a plan and the booked parts.
 abbrev pub Reached : Plan → List Booking → List Station → List ℕ → ℕ → (Event → Bool) → List ℕ → List Station → Type 0
-Reached plan book begun first m p sheet ms = Running plan.stages (asked plan.stages plan.told) begun (calls book) first m p sheet ms
+Reached plan book begun first m p sheet ms = Running plan.table.stages.count (plan_waits plan) begun (calls book) first m p sheet ms
 
 -- Whatever the run began with, if it had come to m and p with the sheet and the row as they were, it has come to m' and q with
 -- them as they are.

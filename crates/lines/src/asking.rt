@@ -1,22 +1,50 @@
-ghost use Rattle.std.specs.Prelude.{◌≡◌, ℕ, ◌<◌, ◌≤◌, length};
+ghost use Rattle.std.specs.Prelude.{◌≡◌, ◌≤◌, true, length};
+ghost use Rattle.controls.specs.declared.events.Event.{Event as EventType};
+ghost use Rattle.controls.specs.Control.{Fits};
+ghost use Rattle.controls.specs.Events.{InLine};
+ghost use Rattle.controls.specs.Lists.{somes};
 ghost use Rattle.lines.specs.Asked.{Tells};
+ghost use Rattle.lines.specs.Order.{Orderly};
+ghost use Rattle.lines.specs.Sheet.{row_of};
 
-use crate::sheets::{MOST_ROWS, event_at};
+use crate::sheets::{MOST_ROWS, Stages};
 use controls::control::Control;
 use controls::events::Wait;
+use std::array;
 
-// Asks the control once for the waits of every event; they stand by the rows of the sheet.
-pub(crate) fn ask<C: Control>(
+// What each event of a part waits for, as a control told it; the waits stand by the rows of the sheet.
+#[derive(Clone, Copy)]
+pub(crate) struct WaitTable {
+    pub(crate) stages: Stages,
+    pub(crate) told: [[Option<Wait>; 3]; MOST_ROWS],
+    ghost orderly: { ∥ Orderly stages.count told ∥₁ },
+}
+
+// The waits of every event, by the rows of the sheet. The control is asked once.
+fn told_by<C: Control>(
     control: &C,
-    stages: u32,
+    stages: Stages,
     counts: &[u32],
 ) -> [[Option<Wait>; 3]; MOST_ROWS]
-    requires { stages ≤ 8 }
-    ensures { Tells stages ((C.meaning control.now).waits stages counts.now) result }
+    ensures { Tells stages.count ((C.meaning control.now).waits stages.count counts.now) result }
 {
-    let mut told = [[None; 3]; MOST_ROWS];
-    for row in 0..3 * stages as usize + 1 {
-        told[row] = control.waits(stages, counts, event_at(stages, row));
+    array::from_fn(
+        |row| -> [Option<Wait>; 3]
+            ensures told { (e : EventType) → InLine stages.count e → row_of stages.count e ≡ row → somes result ≡ (C.meaning control.entry.now).waits stages.count counts.entry.now e }
+            ensures few { length result ≤ 3 }
+        { control.waits(stages.count, counts, stages.event_at(row)) },
+    )
+}
+
+// Asks the control for the waits of every event.
+pub(crate) fn ask<C: Control>(control: &C, stages: Stages, counts: &[u32]) -> WaitTable
+    requires fits { Fits (C.meaning control.now) stages.count counts.now }
+    requires lawful { (C.meaning control.now).lawful stages.count counts.now ≡ true }
+    ensures stages { result.stages ≡ stages }
+    ensures tells { Tells stages.count ((C.meaning control.now).waits stages.count counts.now) result.told }
+{
+    WaitTable {
+        stages,
+        told: told_by(control, stages, counts),
     }
-    told
 }

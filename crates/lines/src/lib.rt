@@ -2,9 +2,6 @@
 #![tactic(auto)]
 
 mod asking;
-pub mod faults;
-pub mod line;
-mod misses;
 mod orders;
 mod plans;
 mod running;

@@ -8,37 +8,49 @@ use stations::numbers::StageNo;
 // The most rows that a sheet has: pass, release and completion of 8 stages, and the delivery.
 pub(crate) const MOST_ROWS: usize = 25;
 
-// The row of an event on the sheet, counted from 0.
-pub(crate) fn row_of(stages: u32, event: Event) -> usize
-    requires stages_bound { stages ≤ 8 }
-    requires in_line { InLine stages event }
-    ensures row { result ≡ row_of stages event }
-    ensures few { result < 3 * stages + 1 }
-{
-    let n = stages as usize;
-    match event {
-        Event::Pass(stage) => stage.0 as usize - 1,
-        Event::Release(stage) => n + (stage.0 as usize - 1),
-        Event::Completion(stage) => n + n + (stage.0 as usize - 1),
-        Event::Delivery => n + n + n,
-    }
+// The stages of a line, 8 at most. They tell the rows of its sheet.
+#[derive(Clone, Copy)]
+pub(crate) struct Stages {
+    pub(crate) count: u32,
+    ghost few: { count ≤ 8 },
 }
 
-// The event of a row.
-pub(crate) fn event_at(stages: u32, row: usize) -> Event
-    requires stages_bound { stages ≤ 8 }
-    requires row_bound { row < 3 * stages + 1 }
-    ensures inside { InLine stages result }
-    ensures back { row_of stages result ≡ row }
-{
-    let n = stages as usize;
-    if row < n {
-        Event::Pass(StageNo(row as u32 + 1))
-    } else if row < n + n {
-        Event::Release(StageNo((row - n) as u32 + 1))
-    } else if row < n + n + n {
-        Event::Completion(StageNo((row - n - n) as u32 + 1))
-    } else {
-        Event::Delivery
+impl Stages {
+    // How many rows the sheet has.
+    pub(crate) fn rows(self) -> usize
+        ensures { result ≡ 3 * self.count + 1 }
+    {
+        3 * self.count as usize + 1
+    }
+
+    // The row of an event on the sheet, counted from 0. An event that the line does not have may have any.
+    pub(crate) fn row_of(self, event: Event) -> usize
+        ensures row { result ≡ row_of self.count event }
+        ensures few { InLine self.count event → result < 3 * self.count + 1 }
+    {
+        let n = self.count as usize;
+        match event {
+            Event::Pass(stage) => (stage.0 as usize).saturating_sub(1),
+            Event::Release(stage) => n + (stage.0 as usize).saturating_sub(1),
+            Event::Completion(stage) => n + n + (stage.0 as usize).saturating_sub(1),
+            Event::Delivery => n + n + n,
+        }
+    }
+
+    // The event of a row; that of a row past the last is the delivery.
+    pub(crate) fn event_at(self, row: usize) -> Event
+        ensures inside { InLine self.count result }
+        ensures back { row < 3 * self.count + 1 → row_of self.count result ≡ row }
+    {
+        let n = self.count as usize;
+        if row < n {
+            Event::Pass(StageNo(row as u32 + 1))
+        } else if row < n + n {
+            Event::Release(StageNo((row - n) as u32 + 1))
+        } else if row < n + n + n {
+            Event::Completion(StageNo((row - n - n) as u32 + 1))
+        } else {
+            Event::Delivery
+        }
     }
 }

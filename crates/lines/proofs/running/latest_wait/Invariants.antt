@@ -1,8 +1,0 @@
-use Rattle.std.proofs.Common.{◌≡◌, ◌+◌, length, take}
-use Rattle.lines.specs.Missed.{calls}
-use Rattle.lines.specs.Sheet.{rows}
-use Rattle.lines.proofs.Ends.{latest_of}
-use Rattle.lines.proofs.running.latest_wait.Given as goal
-
-abbrev pub invariant-loop-wait : goal.invariant-loop-wait
-invariant-loop-wait l = l.latest ≡ latest_of (calls l.book) (rows l.stages (length l.book) l.sheet) (l.index + 1) (take l.wait-index l.waits)
