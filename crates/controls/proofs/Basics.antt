@@ -1,7 +1,8 @@
 -- Induction over parts and, within a part, over steps; and what `at`, `latest` and `Each` give.
 use Rattle.std.proofs.Common.{◌≡◌, ℕ, zero, suc, ◌-◌, ◌<◌, ◌≤◌, ◌⊎◌, List, [], ◌∷◌, ◌++◌, map, length, take, sym, refl, subst, inl, inr, not-suc-le-zero, lt-suc_self, arith, get_or-take}
+use Rattle.std.specs.List.{AllByRecursion, AllZip}
 use native.Mathlib.Decide.{ℕ_discrete}
-use Rattle.controls.specs.Lists.{latest, Each, Both}
+use Rattle.controls.specs.Lists.{latest}
 use Rattle.stations.specs.Lists.{at}
 
 -- The event f of part j is worked out before the event e of part n.
@@ -34,33 +35,33 @@ pub at_end : (xs : List ℕ) (x : ℕ) → at (xs ++ x ∷ []) (suc (length xs))
 at_end [] x = refl
 at_end (y ∷ xs) x = at_end xs x
 
-pub latest_mono : {A : Type 0} (f g : A → ℕ) (ws : List A) → Each (λ w. f w ≤ g w) ws → latest (map f ws) ≤ latest (map g ws)
+pub latest_mono : {A : Type 0} (f g : A → ℕ) (ws : List A) → AllByRecursion (λ w. f w ≤ g w) ws → latest (map f ws) ≤ latest (map g ws)
 latest_mono f g [] h = omega arith
 latest_mono f g (w ∷ ws) h = let r = latest_mono f g ws h.1 in omega arith
 
-pub latest_below : {A : Type 0} (f : A → ℕ) (b : ℕ) (ws : List A) → Each (λ w. f w ≤ b) ws → latest (map f ws) ≤ b
+pub latest_below : {A : Type 0} (f : A → ℕ) (b : ℕ) (ws : List A) → AllByRecursion (λ w. f w ≤ b) ws → latest (map f ws) ≤ b
 latest_below f b [] h = omega arith
 latest_below f b (w ∷ ws) h = let r = latest_below f b ws h.1 in omega arith
 
 pub latest_both :
-    {A B : Type 0} (f : A → ℕ) (g : B → ℕ) (ws : List A) (vs : List B) → Both (λ w v. f w ≤ g v) ws vs
+    {A B : Type 0} (f : A → ℕ) (g : B → ℕ) (ws : List A) (vs : List B) → AllZip (λ w v. f w ≤ g v) ws vs
     → latest (map f ws) ≤ latest (map g vs)
 latest_both f g [] [] h = omega arith
 latest_both f g [] (v ∷ vs) h = absurd h
 latest_both f g (w ∷ ws) [] h = absurd h
 latest_both f g (w ∷ ws) (v ∷ vs) h = let r = latest_both f g ws vs h.1 in omega arith
 
-pub each_map : {A : Type 0} {P Q : A → Type 0} (ws : List A) → ((w : A) → P w → Q w) → Each P ws → Each Q ws
+pub each_map : {A : Type 0} {P Q : A → Type 0} (ws : List A) → ((w : A) → P w → Q w) → AllByRecursion P ws → AllByRecursion Q ws
 each_map [] f h = tt
 each_map (w ∷ ws) f h = (f w h.0, each_map ws f h.1)
 
-pub each_map₂ : {A : Type 0} {P Q R : A → Type 0} (ws : List A) → ((w : A) → P w → Q w → R w) → Each P ws → Each Q ws → Each R ws
+pub each_map₂ : {A : Type 0} {P Q R : A → Type 0} (ws : List A) → ((w : A) → P w → Q w → R w) → AllByRecursion P ws → AllByRecursion Q ws → AllByRecursion R ws
 each_map₂ [] f h k = tt
 each_map₂ (w ∷ ws) f h k = (f w h.0 k.0, each_map₂ ws f h.1 k.1)
 
 pub both_map :
     {A B : Type 0} {P : A → B → Type 0} {Q : B → A → Type 0} {R : B → Type 0} {S : A → B → Type 0} (ws : List A) (vs : List B)
-    → ((w : A) (v : B) → P w v → Q v w → R v → S w v) → Both P ws vs → Both Q vs ws → Each R vs → Both S ws vs
+    → ((w : A) (v : B) → P w v → Q v w → R v → S w v) → AllZip P ws vs → AllZip Q vs ws → AllByRecursion R vs → AllZip S ws vs
 both_map [] [] f h k l = tt
 both_map [] (v ∷ vs) f h k l = absurd h
 both_map (w ∷ ws) [] f h k l = absurd h

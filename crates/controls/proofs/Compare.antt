@@ -1,5 +1,6 @@
 -- The comparison of two tables: counts nowhere fewer, a row never later and calls no later give times no later.
 use Rattle.std.proofs.Common.{◌≡◌, ℕ, zero, suc, ◌-◌, ◌≤◌, List, length, take, sym, ap, ◌∙◌, subst, inl, inr, arith, length-take-le}
+use Rattle.std.specs.List.{AllByRecursion, AllZip}
 use native.Mathlib.Decide.{ℕ_discrete}
 use Rattle.stations.specs.declared.numbers.StageNo.{StageNo}
 use Rattle.controls.specs.declared.events.Event.{Event}
@@ -9,7 +10,6 @@ use Rattle.controls.specs.declared.events.Wait.TheVariants.{Call, After}
 use Rattle.controls.proofs.Rules.{NowhereLater, Granted, LawfulRules, BetterRules}
 use Rattle.controls.specs.Control.{StepFits, Steps}
 use Rattle.controls.specs.Events.{InLine, Waits, SameSource, LagUpTo, SourceIn}
-use Rattle.controls.specs.Lists.{Each, Both}
 use Rattle.controls.specs.Times.{Row, Table, wait_end, Times}
 use Rattle.stations.specs.Lists.{at}
 use Rattle.controls.proofs.Basics.{Before, by_parts_and_steps, source_before, at_take, latest_both, both_map, each_map₂}
@@ -21,9 +21,9 @@ module _ {N : ℕ} {more fewer : Event → List Wait} {row old : Row} {calls lat
     (steady-t : (e : Event) (n : ℕ) → InLine N e → n ≤ length calls → Steady (t e) n)
     (steady-u : (e : Event) (n : ℕ) → InLine N e → n ≤ length late → Steady (u e) n)
     (steps : Steps N fewer)
-    (inside : (e : Event) → InLine N e → Waits e → Each (SourceIn N) (fewer e))
-    (same : (e : Event) → InLine N e → Waits e → Both SameSource (more e) (fewer e))
-    (lags : (e : Event) → InLine N e → Waits e → Both LagUpTo (fewer e) (more e))
+    (inside : (e : Event) → InLine N e → Waits e → AllByRecursion (SourceIn N) (fewer e))
+    (same : (e : Event) → InLine N e → Waits e → AllZip SameSource (more e) (fewer e))
+    (lags : (e : Event) → InLine N e → Waits e → AllZip LagUpTo (fewer e) (more e))
     (lawful : LawfulRules N row) (better : BetterRules N row old)
     (m : ℕ) (fits : m ≤ length calls) (fits' : m ≤ length late)
     (called : (n : ℕ) → n ≤ m → at calls n ≤ at late n) where
@@ -51,7 +51,7 @@ module _ {N : ℕ} {more fewer : Event → List Wait} {row old : Row} {calls lat
   waiting e we zero before e_in le = omega arith
   waiting e we (suc p) before e_in le =
       let n = suc p in
-      let ok : Each (WaitOk e n) (fewer e) = each_map₂ (fewer e) (λ w a b. (a, b)) (steps.fits e e_in we) (inside e e_in we) in
+      let ok : AllByRecursion (WaitOk e n) (fewer e) = each_map₂ (fewer e) (λ w a b. (a, b)) (steps.fits e e_in we) (inside e e_in we) in
       let all = both_map (more e) (fewer e) (wait_ok e n (omega arith) le before) (same e e_in we) (lags e e_in we) ok in
       let a = quick.waited e e_in we n (omega arith) (omega arith) in
       let b = slow.waited e e_in we n (omega arith) (omega arith) in

@@ -1,5 +1,6 @@
 -- What the comparison gives, over every lawful control and every lawful row.
 use Rattle.std.proofs.Common.{◌≡◌, ℕ, zero, suc, ◌≤◌, List, [], ◌∷◌, ◌++◌, length, take, sym, refl, ap, ◌∙◌, arith, length-append, length-take-le, ext_get_or}
+use Rattle.std.specs.List.{AllByRecursion}
 use lib.ListN.{get_or-append}
 use Rattle.controls.specs.declared.events.Event.{Event}
 use Rattle.controls.specs.declared.events.Wait.{Wait}
@@ -7,7 +8,6 @@ use Rattle.controls.specs.declared.events.Wait.TheVariants.{Call, After}
 use Rattle.controls.proofs.Rules.{lawful_rules, better_rules, rising_granted, at_below, below_at}
 use Rattle.controls.specs.Control.{Meaning, Rise, LawfulControl}
 use Rattle.controls.specs.Filling.{Filled, SourceKnown}
-use Rattle.controls.specs.Lists.{Each}
 use Rattle.controls.specs.Times.{Row, Better}
 use Rattle.stations.specs.Lists.{at}
 use Rattle.stations.specs.Rule.{Below}
@@ -33,7 +33,7 @@ pub rise_refl : (K : List ℕ) → Rise K K
 rise_refl [] = tt
 rise_refl (k ∷ K) = (omega arith, rise_refl K)
 
-each_known : (parts n : ℕ) → n ≤ parts → (ws : List Wait) → Each (SourceKnown (λ e m. m ≤ parts) n) ws
+each_known : (parts n : ℕ) → n ≤ parts → (ws : List Wait) → AllByRecursion (SourceKnown (λ e m. m ≤ parts) n) ws
 each_known parts n h [] = tt
 each_known parts n h (Call ∷ ws) = (tt, each_known parts n h ws)
 each_known parts n h (After s L ∷ ws) = (omega arith, each_known parts n h ws)

@@ -1,5 +1,6 @@
 -- Lawful counts have a table of times.
 use Rattle.std.proofs.Common.{◌≡◌, ℕ, zero, suc, ◌-◌, ◌≤◌, List, [], ◌∷◌, ◌++◌, map, length, take, sym, refl, ap, ◌∙◌, subst, inl, inr, arith, length-append, length-take-le, take_all, take-take, ext_get_or}
+use Rattle.std.specs.List.{AllByRecursion}
 use mathlib.Core.WellFounded.{Acc, WellFounded, fix, fix-eq}
 use native.Mathlib.Decide.{ℕ_discrete, dec_lt}
 use lib.Seq.{take-append-le}
@@ -12,7 +13,7 @@ use Rattle.controls.proofs.Rules.{Granted, LawfulRules, lawful_rules, rising_gra
 use Rattle.controls.specs.Control.{Meaning, StepFits, Steps, LawfulControl}
 use Rattle.controls.specs.Events.{IsStage, InLine, Waits, SourceIn}
 use Rattle.controls.specs.Filling.{SourceKnown, Filled}
-use Rattle.controls.specs.Lists.{latest, Each}
+use Rattle.controls.specs.Lists.{latest}
 use Rattle.controls.specs.Times.{Row, Table, wait_end, TimesOf, Times}
 use Rattle.stations.specs.Lists.{at}
 use Rattle.controls.specs.Claims.{Exist}
@@ -72,7 +73,7 @@ abbrev Slot : Type 0
 Slot = Event × ℕ
 
 module _ (N : ℕ) (waits : Event → List Wait) (row : Row) (calls : List ℕ) (steps : Steps N waits)
-    (inside : (e : Event) → InLine N e → Waits e → Each (SourceIn N) (waits e)) (lawful : LawfulRules N row) (called : Granted calls) where
+    (inside : (e : Event) → InLine N e → Waits e → AllByRecursion (SourceIn N) (waits e)) (lawful : LawfulRules N row) (called : Granted calls) where
   abbrev Under : Slot → Slot → Type 0
   Under y x = Before steps.step y.0 y.1 x.0 x.1
 

@@ -1,5 +1,6 @@
 -- A table that is filled minute by minute.
 use Rattle.std.proofs.Common.{◌≡◌, ℕ, suc, ◌-◌, ◌≤◌, Bool, true, false, ◌⊎◌, List, [], ◌∷◌, map, length, take, sym, refl, ap, ◌∙◌, subst, inl, inr, arith, length-take-le, ext_get_or}
+use Rattle.std.specs.List.{AllByRecursion}
 use native.Mathlib.Decide.{ℕ_discrete}
 use Rattle.stations.specs.declared.numbers.StageNo.{StageNo}
 use Rattle.controls.specs.declared.events.Event.{Event}
@@ -8,13 +9,13 @@ use Rattle.controls.specs.declared.events.Wait.{Wait}
 use Rattle.controls.specs.declared.events.Wait.TheVariants.{Call, After}
 use Rattle.controls.specs.Events.{InLine, Waits, SourceIn}
 use Rattle.controls.specs.Filling.{SourceKnown, Filled}
-use Rattle.controls.specs.Lists.{latest, Each}
+use Rattle.controls.specs.Lists.{latest}
 use Rattle.controls.specs.Times.{Row, Table, wait_end, TimesOf}
 use Rattle.stations.specs.Lists.{at}
 use Rattle.controls.proofs.Basics.{at_take, each_map₂}
 use borrow.Author.Tests.{clash}
 
-pub same_latest : {A : Type 0} (f g : A → ℕ) (ws : List A) → Each (λ w. f w ≡ g w) ws → latest (map f ws) ≡ latest (map g ws)
+pub same_latest : {A : Type 0} (f g : A → ℕ) (ws : List A) → AllByRecursion (λ w. f w ≡ g w) ws → latest (map f ws) ≡ latest (map g ws)
 same_latest f g [] h = refl
 same_latest f g (w ∷ ws) h = let r = same_latest f g ws h.1 in omega arith
 
@@ -29,7 +30,7 @@ same_front xs ys n h sz same =
 
 module _ {Known : Event → ℕ → Type 0} {N : ℕ} {waits : Event → List Wait} {row : Row} {calls : List ℕ} {t : Table}
     (times : TimesOf Known N waits row calls t) (filled : Filled N waits (length calls) Known)
-    (inside : (e : Event) → InLine N e → Waits e → Each (SourceIn N) (waits e)) where
+    (inside : (e : Event) → InLine N e → Waits e → AllByRecursion (SourceIn N) (waits e)) where
   -- What is written past the known minutes leaves them the times that they are.
   pub known_kept :
       (u : Table) → ((e : Event) → InLine N e → length (u e) ≡ length (t e))

@@ -1,5 +1,6 @@
 -- Each event's minutes never fall over the parts, and are on the clock.
 use Rattle.std.proofs.Common.{◌≡◌, ℕ, zero, suc, ◌-◌, ◌≤◌, List, length, take, sym, subst, inl, inr, arith, length-take-le}
+use Rattle.std.specs.List.{AllByRecursion}
 use native.Mathlib.Decide.{ℕ_discrete}
 use Rattle.stations.specs.declared.numbers.StageNo.{StageNo}
 use Rattle.controls.specs.declared.events.Event.{Event}
@@ -11,7 +12,6 @@ use Rattle.controls.proofs.Rules.{NeverFalls, Within, Granted, LawfulRules, lawf
 use Rattle.controls.specs.Control.{StepFits, Steps}
 use Rattle.controls.specs.Events.{IsStage, InLine, Waits, SourceIn}
 use Rattle.controls.specs.Filling.{SourceKnown, Filled}
-use Rattle.controls.specs.Lists.{Each}
 use Rattle.controls.specs.Times.{Row, LawfulRow, Table, wait_end, TimesOf}
 use Rattle.stations.specs.Lists.{at}
 use Rattle.stations.specs.Rule.{Rising}
@@ -41,7 +41,7 @@ granted_front xs n h steady =
 
 module _ {Known : Event → ℕ → Type 0} {N : ℕ} {waits : Event → List Wait} {row : Row} {calls : List ℕ} {t : Table}
     (times : TimesOf Known N waits row calls t) (filled : Filled N waits (length calls) Known) (steps : Steps N waits)
-    (inside : (e : Event) → InLine N e → Waits e → Each (SourceIn N) (waits e))
+    (inside : (e : Event) → InLine N e → Waits e → AllByRecursion (SourceIn N) (waits e))
     (lawful : LawfulRules N row) (called : Granted calls) where
   Claim : Event → ℕ → Type 0
   Claim e n = InLine N e → Known e n → Steady (t e) n
@@ -65,7 +65,7 @@ module _ {Known : Event → ℕ → Type 0} {N : ℕ} {waits : Event → List Wa
       let n = suc p in
       let ws = waits e in
       let in-time = filled.within e n e_in le in
-      let known : Each (λ w. SourceIn N w × SourceKnown Known n w) ws = each_map₂ ws (λ w a b. (a, b)) (inside e e_in we) (filled.source e n e_in we (omega arith) le) in
+      let known : AllByRecursion (λ w. SourceIn N w × SourceKnown Known n w) ws = each_map₂ ws (λ w a b. (a, b)) (inside e e_in we) (filled.source e n e_in we (omega arith) le) in
       let all = each_map₂ ws (wait_steady e n (omega arith) in-time before) (steps.fits e e_in we) known in
       let here = times.waited e e_in we n (omega arith) le in
       record {
@@ -121,7 +121,7 @@ module _ {Known : Event → ℕ → Type 0} {N : ℕ} {waits : Event → List Wa
 pub releases_rising :
     {Known : Event → ℕ → Type 0} {N : ℕ} {waits : Event → List Wait} {row : Row} {calls : List ℕ} {t : Table}
     → TimesOf Known N waits row calls t → Filled N waits (length calls) Known → Steps N waits
-    → ((e : Event) → InLine N e → Waits e → Each (SourceIn N) (waits e)) → LawfulRow N row → Rising 0 calls
+    → ((e : Event) → InLine N e → Waits e → AllByRecursion (SourceIn N) (waits e)) → LawfulRow N row → Rising 0 calls
     → (i : StageNo) (n : ℕ) → IsStage N i → Known (Release i) n → Rising 0 (take n (t (Release i)))
 releases_rising {calls = calls} times filled steps inside lawful called i n i_in known =
     granted_rising _ (releases_granted times filled steps inside (lawful_rules lawful) (rising_granted calls called) i n i_in known)

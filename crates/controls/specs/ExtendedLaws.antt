@@ -14,12 +14,12 @@ use Rattle.controls.specs.Extended.{has_card, extended_release, extended}
 use Rattle.controls.specs.StageLaws.{StageLaws, staged_laws, rise_at, every_each, each_every, next_cases}
 
 has_cards : (N : ℕ) (K : List ℕ) → every (has_card N K) N ≡ true → (i : ℕ) → 1 ≤ i → i ≤ N → 1 ≤ at K i + at K (N + i)
-has_cards N K ok i a b = leb-true 1 (at K i + at K (N + i)) (every_each (has_card N K) N ok i a b)
+has_cards N K ok i a b = leb-true 1 (at K i + at K (N + i)) (every_each (has_card N K) 1 N ok i a (omega arith))
 
 rises : (N : ℕ) (K L : List ℕ) → Rise K L → every (has_card N K) N ≡ true → every (has_card N L) N ≡ true
-rises N K L r ok = each_every (has_card N L) N (λ i a b.
+rises N K L r ok = each_every (has_card N L) 1 N (λ i a b.
     le-leb 1 (at L i + at L (N + i))
-    (let p = rise_at K L r i in let q = rise_at K L r (N + i) in let k = has_cards N K ok i a b in omega arith))
+    (let p = rise_at K L r i in let q = rise_at K L r (N + i) in let k = has_cards N K ok i a (omega arith) in omega arith))
 
 -- The step of release i + 1, and of the delivery for i = N: up two where completion i must come first, else down one.
 turn : ℕ → ℕ → ℕ

@@ -1,5 +1,6 @@
 pub mod Lists
 pub mod Events
+pub mod Words
 pub mod Control
 pub mod Times
 pub mod Filling

@@ -1,17 +1,17 @@
 -- The laws of a control that is given by its waits of each stage.
-use Rattle.std.specs.Prelude.{◌≡◌, ℕ, zero, suc, ◌+◌, ◌<◌, ◌≤◌, Bool, true, false, cond, leb, List, [], ◌∷◌, ◌++◌, length, ◌≢◌, nat_le, refl}
-use Rattle.std.proofs.Common.{ap, ◌∙◌, inl, inr, arith, add-one, length-append}
-use Rattle.std.proofs.lemmas.Bool.{leb-true, le-leb, lt-ltb, le-ltb, and_parts, and_from, cases_eq, cases_lt, both_ways}
+use Rattle.std.specs.Prelude.{◌≡◌, ℕ, zero, suc, ◌+◌, ◌<◌, ◌≤◌, Bool, true, false, cond, leb, List, [], ◌∷◌, ◌++◌, length, nat_le, refl}
+use Rattle.std.specs.List.{AllByRecursion, AllZip, list_all, range_with_len}
+use Rattle.std.proofs.Common.{ap, ◌∙◌, inl, inr, arith, length-append}
+use Rattle.std.proofs.lemmas.Bool.{leb-true, le-leb, lt-ltb, le-ltb, and_parts, and_from, cases_eq, cases_lt}
 use Rattle.stations.specs.declared.numbers.StageNo.{StageNo}
 use Rattle.stations.specs.Lists.{at}
 use Rattle.controls.specs.declared.events.Event.{Event}
 use Rattle.controls.specs.declared.events.Event.TheVariants.{Pass, Release, Completion, Delivery}
 use Rattle.controls.specs.declared.events.Wait.{Wait}
 use Rattle.controls.specs.declared.events.Wait.TheVariants.{Call, After}
-use Rattle.controls.specs.Lists.{Each, Both}
 use Rattle.controls.specs.Events.{IsStage, InLine, Waits, SourceIn, SameSource, LagUpTo}
 use Rattle.controls.specs.Control.{Meaning, Rise, StepFits, LawfulControl}
-use Rattle.controls.specs.Stages.{stage, is_stage, at_stage, before, staged, next_release, every, carded}
+use Rattle.controls.specs.Stages.{stage, is_stage, at_stage, before, staged, next_release, carded}
 
 pub rise_at : (K L : List ℕ) → Rise K L → (n : ℕ) → at K n ≤ at L n
 rise_at K L h zero = omega arith
@@ -22,34 +22,24 @@ rise_at (k ∷ K) (l ∷ L) h (suc zero) = h.0
 rise_at (k ∷ K) (l ∷ L) h (suc (suc p)) = rise_at K L h.1 (suc p)
 
 -- A test of every stage.
-pub every_each : (test : ℕ → Bool) (n : ℕ) → every test n ≡ true → (i : ℕ) → 1 ≤ i → i ≤ n → test i ≡ true
-every_each test zero h i a b = absurd (omega arith)
-every_each test (suc p) h i a b =
-    let parts = and_parts (every test p) (test (suc p)) h in
-    elim (cases_eq i (suc p)) [ inl e ↦ ap test e ∙ parts.1 | inr d ↦ every_each test p parts.0 i a (omega arith) ]
+pub every_each : (test : ℕ → Bool) (a n : ℕ) → list_all test (range_with_len a n) ≡ true → (i : ℕ) → a ≤ i → i < a + n → test i ≡ true
+every_each test a zero h i l m = absurd (omega arith)
+every_each test a (suc n) h i l m =
+    let parts = and_parts (test a) (list_all test (range_with_len (a + 1) n)) h in
+    elim (cases_eq i a) [ inl e ↦ ap test e ∙ parts.0 | inr d ↦ every_each test (a + 1) n parts.1 i (omega arith) (omega arith) ]
 
-pub each_every : (test : ℕ → Bool) (n : ℕ) → ((i : ℕ) → 1 ≤ i → i ≤ n → test i ≡ true) → every test n ≡ true
-each_every test zero h = refl
-each_every test (suc p) h =
-    and_from (every test p) (test (suc p)) (each_every test p (λ i a b. h i a (omega arith))) (h (suc p) (omega arith) (omega arith))
-
-untrue : (b : Bool) → (b ≢ true) → false ≡ b
-untrue true h = absurd (h refl)
-untrue false h = refl
-
--- The loop that tests stage after stage finds one that fails, or goes on.
-pub every_not : (test : ℕ → Bool) (n i : ℕ) → i < n → test (i + 1) ≡ false → false ≡ every test n
-every_not test n i a h = untrue (every test n) (λ t. both_ways (test (i + 1)) h (every_each test n t (i + 1) (omega arith) (omega arith)))
-
-pub every_more : (test : ℕ → Bool) (i : ℕ) → every test i ≡ true → test (i + 1) ≡ true → every test (i + 1) ≡ true
-every_more test i h k = rw add-one (and_from (every test i) (test (suc i)) h (rw add-one at k))
+pub each_every : (test : ℕ → Bool) (a n : ℕ) → ((i : ℕ) → a ≤ i → i < a + n → test i ≡ true) → list_all test (range_with_len a n) ≡ true
+each_every test a zero h = refl
+each_every test a (suc n) h =
+    and_from (test a) (list_all test (range_with_len (a + 1) n)) (h a (omega arith) (omega arith))
+    (each_every test (a + 1) n (λ i l m. h i (omega arith) (omega arith)))
 
 pub carded_at : (first : ℕ) (K : List ℕ) (n : ℕ) → carded first K n ≡ true → (i : ℕ) → 1 ≤ i → i ≤ n → 1 ≤ at K (first + i)
-carded_at first K n h i a b = leb-true 1 (at K (first + i)) (every_each (λ i. leb 1 (at K (first + i))) n h i a b)
+carded_at first K n h i a b = leb-true 1 (at K (first + i)) (every_each (λ i. leb 1 (at K (first + i))) 1 n h i a (omega arith))
 
 pub carded_rises : (first : ℕ) (K L : List ℕ) (n : ℕ) → Rise K L → carded first K n ≡ true → carded first L n ≡ true
-carded_rises first K L n r h = each_every (λ i. leb 1 (at L (first + i))) n (λ i a b.
-    le-leb 1 (at L (first + i)) (let k = carded_at first K n h i a b in let l = rise_at K L r (first + i) in omega arith))
+carded_rises first K L n r h = each_every (λ i. leb 1 (at L (first + i))) 1 n (λ i a b.
+    le-leb 1 (at L (first + i)) (let k = carded_at first K n h i a (omega arith) in let l = rise_at K L r (first + i) in omega arith))
 
 -- An event of a stage that the line has.
 pub stage_waits : (N : ℕ) (i : StageNo) (ws : List Wait) → IsStage N i → at_stage N i ws ≡ ws
@@ -62,13 +52,13 @@ pub next_cases :
     → P (next_release N i)
 next_cases P N i a b = elim (cases_lt i.0 N) [ inl l ↦ rw (lt-ltb i.0 N l) (a l) | inr m ↦ rw (le-ltb i.0 N m) (b m) ]
 
-each_append : {A : Type 0} (P : A → Type 0) (xs ys : List A) → Each P xs → Each P ys → Each P (xs ++ ys)
+each_append : {A : Type 0} (P : A → Type 0) (xs ys : List A) → AllByRecursion P xs → AllByRecursion P ys → AllByRecursion P (xs ++ ys)
 each_append P [] ys h k = k
 each_append P (x ∷ xs) ys h k = (h.0, each_append P xs ys h.1 k)
 
 both_append :
-    {A B : Type 0} (R : A → B → Type 0) (xs : List A) (us : List B) (ys : List A) (vs : List B) → Both R xs us → Both R ys vs
-    → Both R (xs ++ ys) (us ++ vs)
+    {A B : Type 0} (R : A → B → Type 0) (xs : List A) (us : List B) (ys : List A) (vs : List B) → AllZip R xs us → AllZip R ys vs
+    → AllZip R (xs ++ ys) (us ++ vs)
 both_append R [] [] ys vs h k = k
 both_append R [] (u ∷ us) ys vs h k = absurd h
 both_append R (x ∷ xs) [] ys vs h k = absurd h
@@ -83,8 +73,8 @@ waits_of pass release N K = staged (pass N K) (release N K) N K
 
 -- What is to show of each wait of an event: of those of each stage, and of those that the controls have in common.
 pub record EachStage (P : Event → Wait → Type 0) (pass release : StageWaits) (N : ℕ) (K : List ℕ) : Type 0 where
-  pub on_pass : (i : StageNo) → IsStage N i → Each (P (Pass i)) (pass N K i)
-  pub on_release : (i : StageNo) → IsStage N i → Each (P (Release i)) (release N K i)
+  pub on_pass : (i : StageNo) → IsStage N i → AllByRecursion (P (Pass i)) (pass N K i)
+  pub on_release : (i : StageNo) → IsStage N i → AllByRecursion (P (Release i)) (release N K i)
   pub on_before :
       (i : StageNo) (p : ℕ) → i.0 ≡ suc (suc p) → i.0 ≤ N
       → P (Release i) (After (Completion (stage (suc p))) (at K (suc p)))
@@ -93,13 +83,13 @@ pub record EachStage (P : Event → Wait → Type 0) (pass release : StageWaits)
 
 pub each_stage :
     {P : Event → Wait → Type 0} {pass release : StageWaits} {N : ℕ} {K : List ℕ} → EachStage P pass release N K → (e : Event)
-    → InLine N e → Waits e → Each (P e) (waits_of pass release N K e)
+    → InLine N e → Waits e → AllByRecursion (P e) (waits_of pass release N K e)
 each_stage {pass = pass} {N = N} {K = K} h (Pass i) e_in w = rw (stage_waits N i (pass N K i) e_in) (h.on_pass i e_in)
 each_stage {P = P} {release = release} {N = N} {K = K} h (Release i) e_in w =
     rw (stage_waits N i (release N K i ++ before K i.0) e_in)
     (each_append (P (Release i)) (release N K i) (before K i.0) (h.on_release i e_in) (there i.0 refl))
   where
-    there : (j : ℕ) → i.0 ≡ j → Each (P (Release i)) (before K j)
+    there : (j : ℕ) → i.0 ≡ j → AllByRecursion (P (Release i)) (before K j)
     there zero e = tt
     there (suc zero) e = tt
     there (suc (suc p)) e = (h.on_before i p e e_in.1, tt)
@@ -109,14 +99,14 @@ each_stage h Delivery e_in w = (h.on_call, (h.on_last, tt))
 -- The laws by stage.
 pub record StageLaws (lawful : ℕ → List ℕ → Bool) (pass release : StageWaits) : Type 0 where
   pub rises : (N : ℕ) (K L : List ℕ) → Rise K L → lawful N K ≡ true → lawful N L ≡ true
-  pub same_pass : (N : ℕ) (K L : List ℕ) (i : StageNo) → Both SameSource (pass N K i) (pass N L i)
-  pub same_release : (N : ℕ) (K L : List ℕ) (i : StageNo) → Both SameSource (release N K i) (release N L i)
-  pub lags_pass : (N : ℕ) (K L : List ℕ) → Rise K L → (i : StageNo) → Both LagUpTo (pass N K i) (pass N L i)
-  pub lags_release : (N : ℕ) (K L : List ℕ) → Rise K L → (i : StageNo) → Both LagUpTo (release N K i) (release N L i)
+  pub same_pass : (N : ℕ) (K L : List ℕ) (i : StageNo) → AllZip SameSource (pass N K i) (pass N L i)
+  pub same_release : (N : ℕ) (K L : List ℕ) (i : StageNo) → AllZip SameSource (release N K i) (release N L i)
+  pub lags_pass : (N : ℕ) (K L : List ℕ) → Rise K L → (i : StageNo) → AllZip LagUpTo (pass N K i) (pass N L i)
+  pub lags_release : (N : ℕ) (K L : List ℕ) → Rise K L → (i : StageNo) → AllZip LagUpTo (release N K i) (release N L i)
   pub few_pass : (N : ℕ) (K : List ℕ) (i : StageNo) → length (pass N K i) ≤ 3
   pub few_release : (N : ℕ) (K : List ℕ) (i : StageNo) → length (release N K i) ≤ 2
-  pub in_pass : (N : ℕ) (K : List ℕ) (i : StageNo) → IsStage N i → Each (SourceIn N) (pass N K i)
-  pub in_release : (N : ℕ) (K : List ℕ) (i : StageNo) → IsStage N i → Each (SourceIn N) (release N K i)
+  pub in_pass : (N : ℕ) (K : List ℕ) (i : StageNo) → IsStage N i → AllByRecursion (SourceIn N) (pass N K i)
+  pub in_release : (N : ℕ) (K : List ℕ) (i : StageNo) → IsStage N i → AllByRecursion (SourceIn N) (release N K i)
   pub step : ℕ → List ℕ → Event → ℕ
   pub fits : (N : ℕ) (K : List ℕ) → 1 ≤ N → lawful N K ≡ true → EachStage (StepFits (step N K)) pass release N K
   pub done : (N : ℕ) (K : List ℕ) (i : StageNo) → IsStage N i → step N K (Release i) < step N K (Completion i)
@@ -125,20 +115,20 @@ module _ {lawful : ℕ → List ℕ → Bool} {pass release : StageWaits} (laws 
   abbrev control : Meaning
   control = record { per_stage = per_stage; lawful = lawful; waits = waits_of pass release }
 
-  guarded : (R : Wait → Wait → Type 0) (b : Bool) (xs ys : List Wait) → Both R xs ys → Both R (cond b xs []) (cond b ys [])
+  guarded : (R : Wait → Wait → Type 0) (b : Bool) (xs ys : List Wait) → AllZip R xs ys → AllZip R (cond b xs []) (cond b ys [])
   guarded R true xs ys h = h
   guarded R false xs ys h = tt
 
   both_waits :
-      (R : Wait → Wait → Type 0) (N : ℕ) (K L : List ℕ) → ((i : StageNo) → Both R (pass N K i) (pass N L i))
-      → ((i : StageNo) → Both R (release N K i) (release N L i)) → R Call Call
+      (R : Wait → Wait → Type 0) (N : ℕ) (K L : List ℕ) → ((i : StageNo) → AllZip R (pass N K i) (pass N L i))
+      → ((i : StageNo) → AllZip R (release N K i) (release N L i)) → R Call Call
       → ((i : ℕ) → R (After (Completion (stage i)) (at K i)) (After (Completion (stage i)) (at L i))) → (e : Event) → Waits e
-      → Both R (waits_of pass release N K e) (waits_of pass release N L e)
+      → AllZip R (waits_of pass release N K e) (waits_of pass release N L e)
   both_waits R N K L p r c s (Pass i) w = guarded R (is_stage N i) (pass N K i) (pass N L i) (p i)
   both_waits R N K L p r c s (Release i) w = guarded R (is_stage N i) (release N K i ++ before K i.0) (release N L i ++ before L i.0)
       (both_append R (release N K i) (release N L i) (before K i.0) (before L i.0) (r i) (there i.0))
     where
-      there : (j : ℕ) → Both R (before K j) (before L j)
+      there : (j : ℕ) → AllZip R (before K j) (before L j)
       there zero = tt
       there (suc zero) = tt
       there (suc (suc q)) = (s (suc q), tt)

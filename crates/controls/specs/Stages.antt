@@ -1,4 +1,5 @@
-use Rattle.std.specs.Prelude.{ℕ, zero, suc, ◌+◌, Bool, true, cond, ◌&&◌, leb, List, [], ◌∷◌, ◌++◌, nat_le, nat_lt}
+use Rattle.std.specs.Prelude.{ℕ, zero, suc, ◌+◌, Bool, cond, ◌&&◌, leb, List, [], ◌∷◌, ◌++◌, nat_le, nat_lt}
+use Rattle.std.specs.List.{list_all, range_with_len}
 use Rattle.stations.specs.declared.numbers.StageNo.{StageNo}
 use Rattle.stations.specs.Lists.{at}
 use Rattle.controls.specs.declared.events.Event.{Event}
@@ -45,8 +46,7 @@ next_release N i = cond (nat_lt i.0 N) (Release (stage (i.0 + 1))) Delivery
 
 -- The test holds of stages 1 to n.
 abbrev pub every : (ℕ → Bool) → ℕ → Bool
-every test zero = true
-every test (suc p) = every test p && test (suc p)
+every test n = list_all test (range_with_len 1 n)
 
 -- Each of the n counts that follow the first so many is 1 or more.
 abbrev pub carded : ℕ → List ℕ → ℕ → Bool

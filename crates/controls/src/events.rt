@@ -1,4 +1,8 @@
+ghost use Rattle.std.specs.Prelude.{Some};
+ghost use Rattle.controls.specs.Words.{event_words, wait_words};
+
 use stations::numbers::StageNo;
+use std::fmt;
 
 // What happens to each part. Every line has a delivery.
 #[derive(Clone, Copy, PartialEq, Eq, Debug, Default)]
@@ -14,6 +18,19 @@ pub enum Event {
     Delivery,
 }
 
+impl fmt::Display for Event {
+    ghost output = { λ e. Some (event_words e) };
+
+    fn fmt<W: fmt::Write>(&self, f: &mut fmt::Formatter<W>) -> fmt::Result {
+        match *self {
+            Event::Pass(StageNo(stage)) => write!(f, "pass {stage}"),
+            Event::Release(StageNo(stage)) => write!(f, "release {stage}"),
+            Event::Completion(StageNo(stage)) => write!(f, "completion {stage}"),
+            Event::Delivery => write!(f, "the delivery"),
+        }
+    }
+}
+
 // What an event of a part waits for.
 #[derive(Clone, Copy, PartialEq, Eq, Debug)]
 pub enum Wait {
@@ -21,4 +38,16 @@ pub enum Wait {
     Call,
     // An event of the part so many parts earlier: the source and its lag.
     After(Event, u32),
+}
+
+impl fmt::Display for Wait {
+    ghost output = { λ w. Some (wait_words w) };
+
+    fn fmt<W: fmt::Write>(&self, f: &mut fmt::Formatter<W>) -> fmt::Result {
+        match *self {
+            Wait::Call => write!(f, "the call"),
+            Wait::After(source, lag) if lag > 0 => write!(f, "{source} of the part {lag} before"),
+            Wait::After(source, _) => write!(f, "{source}"),
+        }
+    }
 }

@@ -3,10 +3,9 @@ ghost use Rattle.controls.specs.General.{next_pass, general};
 ghost use Rattle.controls.specs.GeneralLaws.{general_laws};
 ghost use Rattle.std.proofs.Common.{rules};
 
+use crate::cards::Cards;
 use crate::control::Control;
 use crate::events::{Event, Wait};
-use crate::fixed::Two;
-use crate::stages::{all_carded, delivery_waits, is_stage, on_stock_before, second_count};
 use stations::numbers::StageNo;
 
 // Generalized kanban: a call is passed from the last stage to the first, each time with a card, and a stage is given a part when
@@ -26,34 +25,35 @@ fn next_pass(stages: u32, stage: StageNo) -> Wait
 }
 
 impl Control for General {
-    type Per = Two;
+    ghost COUNTS_PER_STAGE = { 2 };
 
-    const COUNTS_PER_STAGE: Two = Two;
+    const COUNTS_PER_STAGE: u32 = 2;
 
     ghost meaning = { λ _. general };
+
+    ghost some = { Prim.search rules };
+
+    ghost few = { Prim.search rules };
 
     ghost counted = { Prim.search rules };
 
     ghost lawful = { λ c. general_laws };
 
-    fn is_lawful(&self, stages: u32, counts: &[u32]) -> bool {
-        all_carded(stages, counts, stages)
+    fn is_lawful(&self, cards: Cards<'_>) -> bool {
+        cards.all_carded(cards.stages)
     }
 
-    fn waits(&self, stages: u32, counts: &[u32], event: Event) -> [Option<Wait>; 3] {
+    fn waits(&self, cards: Cards<'_>, event: Event) -> [Option<Wait>; 3] {
         match event {
-            Event::Pass(stage) if is_stage(stages, stage) => {
-                let card = Wait::After(
-                    Event::Completion(stage),
-                    second_count(stages, counts, stage),
-                );
-                [Some(next_pass(stages, stage)), Some(card), None]
+            Event::Pass(stage) if cards.has_stage(stage) => {
+                let card = Wait::After(Event::Completion(stage), cards.second_count(stage));
+                [Some(next_pass(cards.stages, stage)), Some(card), None]
             }
-            Event::Release(stage) if is_stage(stages, stage) => {
+            Event::Release(stage) if cards.has_stage(stage) => {
                 let pass = Wait::After(Event::Pass(stage), 0);
-                [Some(pass), on_stock_before(counts, stage), None]
+                [Some(pass), cards.on_stock_before(stage), None]
             }
-            Event::Delivery => delivery_waits(stages, counts),
+            Event::Delivery => cards.delivery_waits(),
             _ => [None, None, None],
         }
     }

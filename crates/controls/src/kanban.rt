@@ -2,10 +2,9 @@ ghost use Rattle.controls.specs.Kanban.{kanban};
 ghost use Rattle.controls.specs.KanbanLaws.{kanban_laws};
 ghost use Rattle.std.proofs.Common.{rules};
 
+use crate::cards::Cards;
 use crate::control::Control;
 use crate::events::{Event, Wait};
-use crate::fixed::One;
-use crate::stages::{all_carded, delivery_waits, is_stage, next_release, on_stock_before};
 
 // Kanban: each stage is given a part when the next one is, the last one at a delivery. It has the counts K1..KN, the cards, which
 // are the stocks of finished parts too.
@@ -13,28 +12,32 @@ use crate::stages::{all_carded, delivery_waits, is_stage, next_release, on_stock
 pub struct Kanban;
 
 impl Control for Kanban {
-    type Per = One;
+    ghost COUNTS_PER_STAGE = { 1 };
 
-    const COUNTS_PER_STAGE: One = One;
+    const COUNTS_PER_STAGE: u32 = 1;
 
     ghost meaning = { λ _. kanban };
+
+    ghost some = { Prim.search rules };
+
+    ghost few = { Prim.search rules };
 
     ghost counted = { Prim.search rules };
 
     ghost lawful = { λ c. kanban_laws };
 
-    fn is_lawful(&self, stages: u32, counts: &[u32]) -> bool {
-        all_carded(0, counts, stages)
+    fn is_lawful(&self, cards: Cards<'_>) -> bool {
+        cards.all_carded(0)
     }
 
-    fn waits(&self, stages: u32, counts: &[u32], event: Event) -> [Option<Wait>; 3] {
+    fn waits(&self, cards: Cards<'_>, event: Event) -> [Option<Wait>; 3] {
         match event {
-            Event::Pass(stage) if is_stage(stages, stage) => [Some(Wait::Call), None, None],
-            Event::Release(stage) if is_stage(stages, stage) => {
-                let next = Wait::After(next_release(stages, stage), 0);
-                [Some(next), on_stock_before(counts, stage), None]
+            Event::Pass(stage) if cards.has_stage(stage) => [Some(Wait::Call), None, None],
+            Event::Release(stage) if cards.has_stage(stage) => {
+                let next = Wait::After(cards.next_release(stage), 0);
+                [Some(next), cards.on_stock_before(stage), None]
             }
-            Event::Delivery => delivery_waits(stages, counts),
+            Event::Delivery => cards.delivery_waits(),
             _ => [None, None, None],
         }
     }

@@ -2,12 +2,11 @@
 #![tactic(auto)]
 
 pub mod base;
+pub mod cards;
 pub mod control;
 pub mod events;
 pub mod evolution;
 pub mod extended;
-pub mod fixed;
 pub mod general;
 pub mod kanban;
-mod stages;
 pub mod theorems;
