@@ -1,15 +1,15 @@
 -- What a table of waits keeps of their order, and a plan of its events: facts that have one proof.
-use Rattle.std.proofs.Common.{◌≡◌, ℕ, zero, suc, ◌<◌, Bool, true, List, [], ◌∷◌, length, Option}
+use Rattle.std.proofs.Common.{ℕ, Bool, true, List, [], ◌∷◌, Option}
 use Rattle.std.proofs.Math.Bool.{Bool-set}
 use Rattle.std.proofs.Math.Logic.{∥∥₁_elim, ∥∥₁_map}
-use Rattle.std.specs.Coded.{×_prop, Π_prop, →_prop, Unit-prop, le_prop}
+use Rattle.std.specs.Coded.{×_prop, Π_prop, Unit-prop, le_prop}
 use Rattle.controls.specs.declared.events.Event.{Event}
 use Rattle.controls.specs.declared.events.Event.TheVariants.{Pass, Release, Completion, Delivery}
 use Rattle.controls.specs.declared.events.Wait.{Wait}
 use Rattle.controls.specs.declared.events.Wait.TheVariants.{Call, After}
 use Rattle.controls.specs.Control.{Steps}
 use Rattle.controls.specs.Events.{InLine, Waits, SourceIn}
-use Rattle.controls.specs.Lists.{Each}
+use Rattle.std.specs.List.{AllByRecursion}
 use Rattle.lines.specs.Asked.{asked}
 use Rattle.lines.specs.Order.{Orderly, SourcePlaced, Ready, Follows, Begun, InOrder, among}
 
@@ -19,7 +19,7 @@ in_line_prop N (Release i) = ×_prop le_prop le_prop
 in_line_prop N (Completion i) = ×_prop le_prop le_prop
 in_line_prop N Delivery = Unit-prop
 
-each_prop : (P : Wait → Type 0) → ((w : Wait) → IsProp (P w)) → (ws : List Wait) → IsProp (Each P ws)
+each_prop : (P : Wait → Type 0) → ((w : Wait) → IsProp (P w)) → (ws : List Wait) → IsProp (AllByRecursion P ws)
 each_prop P is [] = Unit-prop
 each_prop P is (w ∷ ws) = ×_prop (is w) (each_prop P is ws)
 
@@ -59,7 +59,7 @@ order_of N waits es kept = ∥∥₁_elim kept (in_order_prop N waits es) (λ o.
 
 -- the waits of a table are on events of the line
 pub inside_of :
-    (N : ℕ) (told : List (List (Option Wait))) → ∥ Orderly N told ∥₁ → (e : Event) → InLine N e → Waits e → Each (SourceIn N) (asked N told e)
+    (N : ℕ) (told : List (List (Option Wait))) → ∥ Orderly N told ∥₁ → (e : Event) → InLine N e → Waits e → AllByRecursion (SourceIn N) (asked N told e)
 inside_of N told kept e e_in w = ∥∥₁_elim kept (each_prop (SourceIn N) (source_in_prop N) (asked N told e)) (λ o. o.inside e e_in w)
 
 -- and leave no circle

@@ -1,5 +1,6 @@
 pub mod Ends
 pub mod FromFn
+pub mod Granting
 pub mod Kept
 pub mod Loads
 pub mod Ordering

@@ -3,13 +3,13 @@ use Rattle.std.proofs.Common.{◌≡◌, ℕ, zero, suc, ◌+◌, ◌<◌, Bool,
 use borrow.Author.Tests.{clash}
 use lib.ListN.{get_or-append}
 use lib.Seq.{take-append_seam, take-append-le}
-use Rattle.std.proofs.lemmas.List.{get_or_push, take_more_set, get_or-set_same, get_or-set_other}
+use Rattle.std.proofs.lemmas.List.{get_or_push, get_or-set_same, get_or-set_other}
 use Rattle.std.proofs.lemmas.Bool.{cases_eq, or_right}
 use Rattle.controls.specs.declared.events.Event.{Event}
 use Rattle.controls.specs.declared.events.Event.TheVariants.{Pass, Release, Completion, Delivery}
 use Rattle.controls.specs.declared.events.Wait.{Wait}
 use Rattle.controls.specs.declared.events.Wait.TheVariants.{Call, After}
-use Rattle.controls.specs.Lists.{Each}
+use Rattle.std.specs.List.{AllByRecursion}
 use Rattle.controls.specs.Events.{InLine, Waits, SourceIn}
 use Rattle.lines.specs.Sheet.{row_of}
 use Rattle.lines.specs.Asked.{asked}
@@ -60,7 +60,7 @@ source_told N p q same Call h k = tt
 source_told N p q same (After s L) h k = λ z. sym (same s k) ∙ h z
 
 pub ready_same : (N : ℕ) (waits : Event → List Wait) (p q : Event → Bool) → ((f : Event) → InLine N f → p f ≡ q f) →
-    ((e : Event) → InLine N e → Waits e → Each (SourceIn N) (waits e)) → (e : Event) → InLine N e → Ready waits p e → Ready waits q e
+    ((e : Event) → InLine N e → Waits e → AllByRecursion (SourceIn N) (waits e)) → (e : Event) → InLine N e → Ready waits p e → Ready waits q e
 ready_same N waits p q same inside (Pass i) h r = each_map₂ (waits (Pass i)) (source_told N p q same) r (inside (Pass i) h tt)
 ready_same N waits p q same inside (Release i) h r = each_map₂ (waits (Release i)) (source_told N p q same) r (inside (Release i) h tt)
 ready_same N waits p q same inside (Completion i) h r = sym (same (Release i) h) ∙ r
@@ -81,7 +81,7 @@ begun_more N waits es e begun follows = record {
 
 -- what next_ready found follows
 pub follows_next : (N : ℕ) (waits : Event → List Wait) (flags : List Bool) (es : List Event) (e : Event) → Shows N flags es →
-    ((e : Event) → InLine N e → Waits e → Each (SourceIn N) (waits e)) → InLine N e → placed_by N flags e ≡ false → Ready waits (placed_by N flags) e → Follows N waits es e
+    ((e : Event) → InLine N e → Waits e → AllByRecursion (SourceIn N) (waits e)) → InLine N e → placed_by N flags e ≡ false → Ready waits (placed_by N flags) e → Follows N waits es e
 follows_next N waits flags es e tells inside e_in new ready = record {
   inside = e_in;
   new = sym (tells e e_in) ∙ new;
@@ -105,7 +105,7 @@ pub turn_down : (N : ℕ) (waits : Event → List Wait) (flags : List Bool) (es 
 turn_down N waits flags es e r t found is lt = downs_set flags r (omega arith) (ap (λ x. get_or flags x false) is ∙ found.1)
 
 pub turn_more : (N : ℕ) (waits : Event → List Wait) (flags : List Bool) (es : List Event) (e : Event) (r : ℕ) → Turn N waits flags es →
-    ((e : Event) → InLine N e → Waits e → Each (SourceIn N) (waits e)) → Next N waits (placed_by N flags) (Some e) → r ≡ row_of N e → r < 25 →
+    ((e : Event) → InLine N e → Waits e → AllByRecursion (SourceIn N) (waits e)) → Next N waits (placed_by N flags) (Some e) → r ≡ row_of N e → r < 25 →
     Turn N waits (set flags r true) (es ++ (e ∷ []))
 turn_more N waits flags es e r t inside found is lt =
     let down = turn_down N waits flags es e r t found is lt in

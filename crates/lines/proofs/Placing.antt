@@ -1,24 +1,24 @@
 -- Where nothing more can be placed, all is placed.
-use Rattle.std.proofs.Common.{◌≡◌, ℕ, zero, suc, ◌+◌, ◌<◌, Bool, true, false, ◌&&◌, List, [], ◌∷◌, length, get_or, Some, None, Option, sym, refl, ap, ◌∙◌, subst, inl, inr, suc-le-suc, not-suc-le-zero, lt-suc_self, arith}
+use Rattle.std.proofs.Common.{◌≡◌, ℕ, zero, suc, ◌+◌, ◌<◌, Bool, true, ◌&&◌, List, [], ◌∷◌, get_or, Some, None, Option, refl, ap, ◌∙◌, subst, inl, inr, not-suc-le-zero, lt-suc_self, arith}
 use Rattle.stations.specs.declared.numbers.StageNo.{StageNo}
 use Rattle.controls.specs.declared.events.Event.{Event}
 use Rattle.controls.specs.declared.events.Event.TheVariants.{Pass, Release, Completion, Delivery}
 use Rattle.controls.specs.declared.events.Wait.{Wait}
 use Rattle.controls.specs.declared.events.Wait.TheVariants.{Call, After}
-use Rattle.controls.specs.Lists.{Each, somes}
+use Rattle.controls.specs.Lists.{somes}
 use Rattle.controls.specs.Control.{StepFits, Steps}
 use Rattle.controls.specs.Events.{InLine, Waits, SourceIn}
 use Rattle.lines.specs.Asked.{asked}
 use Rattle.lines.specs.Order.{SourcePlaced, Ready, source_placed}
 use Rattle.lines.specs.Sheet.{row_of}
-use Rattle.std.specs.List.{list_all}
+use Rattle.std.specs.List.{list_all, AllByRecursion}
 use Rattle.std.proofs.Math.Bool.{Bool-set}
 use Rattle.std.proofs.Math.Logic.{∥∥₁_elim}
 use Rattle.std.proofs.lemmas.Bool.{cases_eq, and_parts}
 use Rattle.controls.proofs.Basics.{each_map₂}
 
 module _ {N : ℕ} {waits : Event → List Wait} (steps : Steps N waits)
-    (inside : (e : Event) → InLine N e → Waits e → Each (SourceIn N) (waits e))
+    (inside : (e : Event) → InLine N e → Waits e → AllByRecursion (SourceIn N) (waits e))
     (p : Event → Bool) (stuck : (e : Event) → InLine N e → Ready waits p e → p e ≡ true) where
   Below : ℕ → Type 0
   Below k = (f : Event) → InLine N f → steps.step f < k → p f ≡ true
@@ -28,7 +28,7 @@ module _ {N : ℕ} {waits : Event → List Wait} (steps : Steps N waits)
   placed_source k below e h Call a b = tt
   placed_source k below e h (After s L) a b = λ z. let l = a z in below s b (omega arith)
 
-  ready : (k : ℕ) → Below k → (e : Event) → steps.step e < suc k → InLine N e → Waits e → Each (SourcePlaced p) (waits e)
+  ready : (k : ℕ) → Below k → (e : Event) → steps.step e < suc k → InLine N e → Waits e → AllByRecursion (SourcePlaced p) (waits e)
   ready k below e h e_in we = each_map₂ (waits e) (placed_source k below e h) (steps.fits e e_in we) (inside e e_in we)
 
   one_more : (k : ℕ) → Below k → Below (suc k)
@@ -49,12 +49,12 @@ module _ {N : ℕ} {waits : Event → List Wait} (steps : Steps N waits)
 
 -- the same, whatever the steps are
 pub all_placed_by :
-    {N : ℕ} {waits : Event → List Wait} → ∥ Steps N waits ∥₁ → ((e : Event) → InLine N e → Waits e → Each (SourceIn N) (waits e))
+    {N : ℕ} {waits : Event → List Wait} → ∥ Steps N waits ∥₁ → ((e : Event) → InLine N e → Waits e → AllByRecursion (SourceIn N) (waits e))
     → (p : Event → Bool) → ((e : Event) → InLine N e → Ready waits p e → p e ≡ true) → (e : Event) → InLine N e → p e ≡ true
 all_placed_by kept inside p stuck e e_in = ∥∥₁_elim kept (Bool-set (p e) true) (λ steps. all_placed steps inside p stuck e e_in)
 
 -- the test tells whether all sources of lag 0 are placed
-pub placed_each : (p : Event → Bool) (os : List (Option Wait)) → list_all (source_placed p) os ≡ true → Each (SourcePlaced p) (somes os)
+pub placed_each : (p : Event → Bool) (os : List (Option Wait)) → list_all (source_placed p) os ≡ true → AllByRecursion (SourcePlaced p) (somes os)
 placed_each p [] h = tt
 placed_each p (None ∷ os) h = placed_each p os h
 placed_each p (Some Call ∷ os) h = (tt, placed_each p os h)
@@ -62,20 +62,20 @@ placed_each p (Some (After s zero) ∷ os) h =
     let both = and_parts (p s) (list_all (source_placed p) os) h in (λ z. both.0, placed_each p os both.1)
 placed_each p (Some (After s (suc L)) ∷ os) h = (λ z. absurd (omega arith), placed_each p os h)
 
-pub each_placed : (p : Event → Bool) (os : List (Option Wait)) → Each (SourcePlaced p) (somes os) → list_all (source_placed p) os ≡ true
+pub each_placed : (p : Event → Bool) (os : List (Option Wait)) → AllByRecursion (SourcePlaced p) (somes os) → list_all (source_placed p) os ≡ true
 each_placed p [] h = refl
 each_placed p (None ∷ os) h = each_placed p os h
 each_placed p (Some Call ∷ os) h = each_placed p os h.1
 each_placed p (Some (After s zero) ∷ os) h = ap (λ b. b && list_all (source_placed p) os) (h.0 refl) ∙ each_placed p os h.1
 each_placed p (Some (After s (suc L)) ∷ os) h = each_placed p os h.1
 
-pub ready_waits : (waits : Event → List Wait) (p : Event → Bool) (e : Event) → Waits e → Each (SourcePlaced p) (waits e) → Ready waits p e
+pub ready_waits : (waits : Event → List Wait) (p : Event → Bool) (e : Event) → Waits e → AllByRecursion (SourcePlaced p) (waits e) → Ready waits p e
 ready_waits waits p (Pass i) w h = h
 ready_waits waits p (Release i) w h = h
 ready_waits waits p (Completion i) w h = absurd w
 ready_waits waits p Delivery w h = h
 
-pub waits_ready : (waits : Event → List Wait) (p : Event → Bool) (e : Event) → Waits e → Ready waits p e → Each (SourcePlaced p) (waits e)
+pub waits_ready : (waits : Event → List Wait) (p : Event → Bool) (e : Event) → Waits e → Ready waits p e → AllByRecursion (SourcePlaced p) (waits e)
 waits_ready waits p (Pass i) w h = h
 waits_ready waits p (Release i) w h = h
 waits_ready waits p (Completion i) w h = absurd w

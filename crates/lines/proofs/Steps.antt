@@ -18,7 +18,8 @@ use Rattle.controls.specs.declared.events.Wait.TheVariants.{Call, After}
 use Rattle.controls.specs.Control.{Steps}
 use Rattle.controls.specs.Events.{IsStage, InLine, Waits, SourceIn}
 use Rattle.controls.specs.Filling.{Filled, SourceKnown}
-use Rattle.controls.specs.Lists.{latest, Each}
+use Rattle.std.specs.List.{AllByRecursion}
+use Rattle.controls.specs.Lists.{latest}
 use Rattle.controls.specs.Times.{Table, wait_end}
 use Rattle.controls.proofs.Basics.{each_map, each_map₂}
 use Rattle.controls.proofs.Filling.{same_latest, same_front, known_kept, UpTo, placed_more}
@@ -48,7 +49,7 @@ filled_up_to N waits parts m p more ready = record {
   release = λ i n i_in. elim [ inl h ↦ inl h | inr h ↦ inr (h.0, ready (Completion i) i_in h.1) ];
 }
   where
-    early : (n : ℕ) → n ≤ m → (ws : List Wait) → Each (SourceKnown (UpTo m p) n) ws
+    early : (n : ℕ) → n ≤ m → (ws : List Wait) → AllByRecursion (SourceKnown (UpTo m p) n) ws
     early n h [] = tt
     early n h (Call ∷ ws) = (tt, early n h ws)
     early n h (After s L ∷ ws) = (inl (omega arith), early n h ws)
@@ -82,7 +83,7 @@ rows_here N n sheet e m v e_in hm wide =
 pub record Turn (N : ℕ) (waits : Event → List Wait) (parts m : ℕ) (p q : Event → Bool) (sheet : List ℕ) (e : Event) : Type 0 where
   pub more : m < parts
   pub wide : room N parts ≤ length sheet
-  pub inside : (f : Event) → InLine N f → Waits f → Each (SourceIn N) (waits f)
+  pub inside : (f : Event) → InLine N f → Waits f → AllByRecursion (SourceIn N) (waits f)
   pub behind : (f : Event) → InLine N f → p f ≡ true → Ready waits p f
   pub e_in : InLine N e
   pub new : p e ≡ false

@@ -4,7 +4,8 @@ use Rattle.controls.specs.declared.events.Event.{Event}
 use Rattle.controls.specs.declared.events.Wait.{Wait}
 use Rattle.controls.specs.Control.{Meaning, Fits, LawfulControl, StepFits}
 use Rattle.controls.specs.Events.{SourceIn}
-use Rattle.controls.specs.Lists.{Each, latest}
+use Rattle.std.specs.List.{AllByRecursion}
+use Rattle.controls.specs.Lists.{latest}
 use Rattle.controls.specs.Times.{Row, Table, wait_end, Times}
 use Rattle.lines.specs.Asked.{asked, Tells}
 use Rattle.lines.specs.Order.{Orderly}
@@ -17,10 +18,10 @@ orderly C laws N K fits lawful told tells =
     record {
       steps = record {
         step = s.step;
-        fits = λ e e_in we. subst (Each (StepFits s.step e)) (sym (tells.all e e_in)) (s.fits e e_in we);
+        fits = λ e e_in we. subst (AllByRecursion (StepFits s.step e)) (sym (tells.all e e_in)) (s.fits e e_in we);
         done = s.done;
       };
-      inside = λ e e_in we. subst (Each (SourceIn N)) (sym (tells.all e e_in)) (laws.inside N K fits e e_in we);
+      inside = λ e e_in we. subst (AllByRecursion (SourceIn N)) (sym (tells.all e e_in)) (laws.inside N K fits e e_in we);
       few = tells.few;
     }
 

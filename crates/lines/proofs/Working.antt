@@ -14,7 +14,8 @@ use Rattle.controls.specs.declared.events.Wait.{Wait}
 use Rattle.controls.specs.declared.events.Wait.TheVariants.{Call, After}
 use Rattle.controls.specs.Control.{Steps}
 use Rattle.controls.specs.Events.{IsStage, InLine, Waits, SourceIn}
-use Rattle.controls.specs.Lists.{latest, Each}
+use Rattle.std.specs.List.{AllByRecursion}
+use Rattle.controls.specs.Lists.{latest}
 use Rattle.controls.specs.Times.{Row, LawfulRow, wait_end, Times}
 use Rattle.controls.proofs.Basics.{each_map}
 use Rattle.controls.proofs.Filling.{part_done}
@@ -69,7 +70,7 @@ module _ (N : ℕ) (waits : Event → List Wait) (es : List Event) (order : InOr
         | inr d ↦ behind k (omega arith) f f-in (sym (next_other k h' f d) ∙ ap (λ x. among N (take x es) f) s ∙ p)
       ]))
 
-  pub turn_of : (inside : (f : Event) → InLine N f → Waits f → Each (SourceIn N) (waits f)) (book : List Booking) (sheet : List ℕ) (m k : ℕ) → m < length book → room N (length book) ≤ length sheet → k < length es →
+  pub turn_of : (inside : (f : Event) → InLine N f → Waits f → AllByRecursion (SourceIn N) (waits f)) (book : List Booking) (sheet : List ℕ) (m k : ℕ) → m < length book → room N (length book) ≤ length sheet → k < length es →
       Turn N waits (length (calls book)) m (among N (take k es)) (among N (take (k + 1) es)) sheet (get_or es k Delivery)
   turn_of inside book sheet m k hm wide hk =
       let l : length (calls book) ≡ length book = length-map book (λ (b : Booking). b.call) in
@@ -85,7 +86,7 @@ module _ (N : ℕ) (waits : Event → List Wait) (es : List Event) (order : InOr
         other = λ f f-in d. next_other k hk f d;
       }
 
-  module _ (inside : (f : Event) → InLine N f → Waits f → Each (SourceIn N) (waits f)) (book : List Booking) (sheet : List ℕ) (m k : ℕ)
+  module _ (inside : (f : Event) → InLine N f → Waits f → AllByRecursion (SourceIn N) (waits f)) (book : List Booking) (sheet : List ℕ) (m k : ℕ)
       (hm : m < length book) (wide : room N (length book) ≤ length sheet) (hk : k < length es) (begun : List Station) (first : List ℕ)
       (ms : List Station) (e : Event) (is-e : e ≡ get_or es k Delivery) (r : ℕ) (is-r : r ≡ row_of N e)
       (run : Running N waits begun (calls book) first m (among N (take k es)) sheet ms) where

@@ -1,4 +1,4 @@
-use Rattle.std.specs.Prelude.{◌≡◌, ℕ, ◌≤◌, List, [], length, Some, None, Option, slice_index_or}
+use Rattle.std.specs.Prelude.{◌≡◌, ℕ, ◌≤◌, List, [], length, Option, slice_index_or}
 use Rattle.controls.specs.declared.events.Event.{Event}
 use Rattle.controls.specs.declared.events.Wait.{Wait}
 use Rattle.controls.specs.Events.{InLine}

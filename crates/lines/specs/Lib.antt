@@ -3,5 +3,7 @@ pub mod Asked
 pub mod Order
 pub mod Stations
 pub mod Refusals
+pub mod Faults
 pub mod Missed
 pub mod Running
+pub mod Runs

@@ -1,4 +1,5 @@
-use Rattle.std.specs.Prelude.{ℕ, ◌+◌, ◌-◌, ◌<◌, ◌≤◌, cond, List, [], ◌∷◌, map, length, Some, None, Option, nat_lt}
+use Rattle.std.specs.Prelude.{ℕ, ◌-◌, ◌<◌, ◌≤◌, List, map, length, Some, None, Option, nat_lt}
+use Rattle.std.specs.List.{zip, count_by}
 use Rattle.stations.specs.declared.numbers.PartNo.{PartNo}
 use Rattle.stations.specs.Lists.{at}
 use Rattle.ledger.specs.declared.bookings.Booking.{Booking}
@@ -26,6 +27,4 @@ FirstMissed book deliveries (Some p) =
 
 -- How many parts are missed.
 abbrev pub how_many_missed : List Booking → List ℕ → ℕ
-how_many_missed [] deliveries = 0
-how_many_missed (b ∷ book) [] = 0
-how_many_missed (b ∷ book) (d ∷ deliveries) = cond (nat_lt b.due d) 1 0 + how_many_missed book deliveries
+how_many_missed book deliveries = count_by (λ part. nat_lt part.0.due part.1) (zip book deliveries)

@@ -5,14 +5,14 @@ use Rattle.controls.specs.declared.events.Wait.{Wait}
 use Rattle.controls.specs.declared.events.Wait.TheVariants.{Call, After}
 use Rattle.controls.specs.Events.{InLine, Waits, SourceIn}
 use Rattle.controls.specs.Control.{Steps}
-use Rattle.controls.specs.Lists.{Each}
+use Rattle.std.specs.List.{AllByRecursion}
 use Rattle.lines.specs.Asked.{asked}
 use Rattle.lines.specs.Sheet.{row_of}
 
 -- What an order needs of the waits that were told: they leave no circle within a part, are on events of the line, and few.
 pub record Orderly (N : ℕ) (told : List (List (Option Wait))) : Type 0 where
   pub steps : Steps N (asked N told)
-  pub inside : (e : Event) → InLine N e → Waits e → Each (SourceIn N) (asked N told e)
+  pub inside : (e : Event) → InLine N e → Waits e → AllByRecursion (SourceIn N) (asked N told e)
   pub few : (row : ℕ) → length (slice_index_or told row []) ≤ 3
 
 -- Which events are placed, by flags for the rows.
@@ -33,10 +33,10 @@ source_placed p (Some (After s (suc L))) = true
 
 -- What an event needs of its own part is placed.
 abbrev pub Ready : (Event → List Wait) → (Event → Bool) → Event → Type 0
-Ready waits p (Pass i) = Each (SourcePlaced p) (waits (Pass i))
-Ready waits p (Release i) = Each (SourcePlaced p) (waits (Release i))
+Ready waits p (Pass i) = AllByRecursion (SourcePlaced p) (waits (Pass i))
+Ready waits p (Release i) = AllByRecursion (SourcePlaced p) (waits (Release i))
 Ready waits p (Completion i) = p (Release i) ≡ true
-Ready waits p Delivery = Each (SourcePlaced p) (waits Delivery)
+Ready waits p Delivery = AllByRecursion (SourcePlaced p) (waits Delivery)
 
 -- An event that can be placed next; where there is none, every event that is ready is placed.
 abbrev pub Next : ℕ → (Event → List Wait) → (Event → Bool) → Option Event → Type 0
@@ -54,7 +54,7 @@ pub record Follows (N : ℕ) (waits : Event → List Wait) (before : List Event)
   pub new : among N before e ≡ false
   pub ready : Ready waits (among N before) e
 
--- Each event follows those before it.
+-- AllByRecursion event follows those before it.
 pub record Begun (N : ℕ) (waits : Event → List Wait) (es : List Event) : Type 0 where
   pub each : (k : ℕ) → k < length es → Follows N waits (take k es) (slice_index_or es k Delivery)
 

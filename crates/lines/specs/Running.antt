@@ -1,7 +1,7 @@
 -- What a run keeps while it works the parts out.
 use Rattle.std.specs.Prelude.{◌≡◌, ℕ, suc, ◌<◌, ◌≤◌, Bool, true, cond, ◌⊎◌, List, length, take, drop, Some, None, Option}
 use Rattle.stations.specs.declared.numbers.StageNo.{StageNo}
-use Rattle.stations.specs.Rule.{Rising, Meaning as Station}
+use Rattle.stations.specs.Rule.{Meaning as Station}
 use Rattle.controls.specs.declared.events.Event.{Event}
 use Rattle.controls.specs.declared.events.Event.TheVariants.{Release, Completion}
 use Rattle.controls.specs.declared.events.Wait.{Wait}

@@ -8,6 +8,7 @@ ghost use Rattle.lines.specs.Order.{Orderly};
 ghost use Rattle.lines.specs.Sheet.{row_of};
 
 use crate::sheets::{MOST_ROWS, Stages};
+use controls::cards::Cards;
 use controls::control::Control;
 use controls::events::Wait;
 use std::array;
@@ -20,7 +21,7 @@ pub(crate) struct WaitTable {
     ghost orderly: { ∥ Orderly stages.count told ∥₁ },
 }
 
-// The waits of every event, by the rows of the sheet. The control is asked once.
+// The waits of every event, by the rows of the sheet.
 fn told_by<C: Control>(
     control: &C,
     stages: Stages,
@@ -28,15 +29,19 @@ fn told_by<C: Control>(
 ) -> [[Option<Wait>; 3]; MOST_ROWS]
     ensures { Tells stages.count ((C.meaning control.now).waits stages.count counts.now) result }
 {
+    let cards = Cards {
+        stages: stages.count,
+        counts,
+    };
     array::from_fn(
         |row| -> [Option<Wait>; 3]
-            ensures told { (e : EventType) → InLine stages.count e → row_of stages.count e ≡ row → somes result ≡ (C.meaning control.entry.now).waits stages.count counts.entry.now e }
+            ensures told { (e : EventType) → InLine stages.count e → row_of stages.count e ≡ row → somes result ≡ (C.meaning control.entry.now).waits cards.entry.stages cards.entry.counts.now e }
             ensures few { length result ≤ 3 }
-        { control.waits(stages.count, counts, stages.event_at(row)) },
+        { control.waits(cards, stages.event_at(row)) },
     )
 }
 
-// Asks the control for the waits of every event.
+// Asks the control for the waits of every event. It is asked here, and not again.
 pub(crate) fn ask<C: Control>(control: &C, stages: Stages, counts: &[u32]) -> WaitTable
     requires fits { Fits (C.meaning control.now) stages.count counts.now }
     requires lawful { (C.meaning control.now).lawful stages.count counts.now ≡ true }

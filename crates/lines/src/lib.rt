@@ -2,6 +2,9 @@
 #![tactic(auto)]
 
 mod asking;
+pub mod faults;
+pub mod line;
+mod misses;
 mod orders;
 mod plans;
 mod running;

@@ -1,12 +1,10 @@
-ghost use Rattle.std.specs.Prelude.{◌≡◌, true};
-ghost use Rattle.controls.specs.Control.{Fits};
-ghost use Rattle.lines.specs.Asked.{asked, Tells};
+ghost use Rattle.std.specs.Prelude.{◌≡◌};
+ghost use Rattle.lines.specs.Asked.{asked};
 ghost use Rattle.lines.specs.Order.{InOrder};
 
-use crate::asking::{WaitTable, ask};
-use crate::sheets::{MOST_ROWS, Stages};
+use crate::asking::WaitTable;
+use crate::sheets::MOST_ROWS;
 use arrayvec::ArrayVec;
-use controls::control::Control;
 use controls::events::Event;
 
 // How every part of a run is worked out: what each event waits for, and the events in an order in which each comes after those of
@@ -18,14 +16,14 @@ pub(crate) struct Plan {
     ghost order: { ∥ InOrder table.stages.count (asked table.stages.count table.told) events.items ∥₁ },
 }
 
-// The plan of a line of these stages with these counts. The control is asked here, and not again.
-pub(crate) fn planned<C: Control>(control: &C, stages: Stages, counts: &[u32]) -> Plan
-    requires fits { Fits (C.meaning control.now) stages.count counts.now }
-    requires lawful { (C.meaning control.now).lawful stages.count counts.now ≡ true }
-    ensures stages { result.table.stages ≡ stages }
-    ensures tells { Tells stages.count ((C.meaning control.now).waits stages.count counts.now) result.table.told }
-{
-    let table = ask(control, stages, counts);
-    let events = table.in_order();
-    Plan { table, events }
+impl Plan {
+    // The plan by these waits.
+    pub(crate) fn by(table: WaitTable) -> Plan
+        ensures { result.table ≡ table }
+    {
+        Plan {
+            table,
+            events: table.in_order(),
+        }
+    }
 }

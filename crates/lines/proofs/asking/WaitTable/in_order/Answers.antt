@@ -1,4 +1,4 @@
-use Rattle.std.proofs.Common.{◌<◌, ◌+◌, arith}
+use Rattle.std.proofs.Common.{◌<◌, arith}
 use Rattle.lines.specs.Asked.{asked}
 use Rattle.lines.proofs.Kept.{inside_of}
 use Rattle.lines.proofs.Ordering.{turn_down, turn_more, in_order}
@@ -23,8 +23,8 @@ loop-event-preserved c =
     let N = c.args.self.now.stages.count in
     let few : c.row_of.result < 25 = omega (arith, c.args.self.now.stages.few, c.row_of.ensures.few c.in-Some.ensures.0) in
     rw c.push.ensures.items
-      (turn_more N (asked N c.args.self.now.told) c.loop-event.placed c.loop-event.events.items c.in-Some.event c.row_of.result c.loop-event.invariant
-        (inside_of N c.args.self.now.told c.args.self.now.orderly) c.in-Some.ensures c.row_of.ensures.row few)
+    (turn_more N (asked N c.args.self.now.told) c.loop-event.placed c.loop-event.events.items c.in-Some.event c.row_of.result c.loop-event.invariant
+    (inside_of N c.args.self.now.told c.args.self.now.orderly) c.in-Some.ensures c.row_of.ensures.row few)
 
 pub returns : goal.returns
 returns c =

@@ -1,4 +1,4 @@
-use Rattle.std.proofs.Common.{rules, ◌≡◌, ◌∙◌, true, [], slice_index_or, sym, subst, ap}
+use Rattle.std.proofs.Common.{rules, ◌∙◌, sym, ap}
 use Rattle.std.specs.List.{list_all}
 use Rattle.controls.specs.Events.{Waits}
 use Rattle.lines.specs.Order.{placed_by, source_placed}

@@ -1,8 +1,7 @@
-use Rattle.std.proofs.Common.{◌≤◌, map, length, sym, refl, subst, arith, rules}
+use Rattle.std.proofs.Common.{map, sym, subst, rules}
 use Rattle.stations.specs.Rule.{freshened}
 use Rattle.lines.specs.Running.{Reached, placed, plan_waits}
-use Rattle.lines.specs.Sheet.{room}
-use Rattle.lines.proofs.Working.{at_start, closed}
+use Rattle.lines.proofs.Working.{at_start}
 use Rattle.lines.proofs.plans.Plan.evaluate.Goals as goal
 
 pub loop-index-init : goal.loop-index-init

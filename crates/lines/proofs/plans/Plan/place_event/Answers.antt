@@ -1,4 +1,4 @@
-use Rattle.std.proofs.Common.{◌≡◌, ◌+◌, ◌*◌, ◌≤◌, List, Err, [], map, length, vec_items, vec_len, get_or, sym, ap, ◌∙◌, subst, arith, rules}
+use Rattle.std.proofs.Common.{◌≡◌, ◌+◌, ◌*◌, ◌≤◌, List, Err, map, length, vec_items, vec_len, get_or, sym, ap, ◌∙◌, subst, arith, rules}
 use Rattle.ledger.specs.declared.bookings.Booking.{Booking}
 use Rattle.rows.specs.RowLoad.{RowLoaded}
 use Rattle.controls.specs.Events.{InLine, Waits}
@@ -40,9 +40,9 @@ returns-in_default-load g c = λ k h is begun first run.
     c.args.book.now.parts.items c.args.sheet.now c.args.index k c.requires.index_in_bounds c.requires.wide h begun first ms c.args.event
     (sym is) c.row_of.result c.row_of.ensures.row run
     (steps_of N plan.table.told plan.table.orderly) (book_rises c.args.book.now sz) i c.in-Completion.is c.row_of-in-Completion.result c.row_of-in-Completion.ensures.row in
-    absurd (never_refused ms _ i _ c.in_default-load.field-0 i_in.0 le ready.0 ready.1 
+    absurd (never_refused ms _ i _ c.in_default-load.field-0 i_in.0 le ready.0 ready.1
     (subst (λ (bs : List Booking). RowLoaded ms i (get_or c.args.sheet.now (c.row_of-in-Completion.result * length bs + c.args.index) 0) (Err c.in_default-load.field-0) (g.R.Row.meanings c.load.new.self))
-        c.parts-parts.ensures c.in_default-load.ensures))
+    c.parts-parts.ensures c.in_default-load.ensures))
 
 pub returns-in_default : goal.returns-in_default
 returns-in_default g c = λ k h is begun first run.

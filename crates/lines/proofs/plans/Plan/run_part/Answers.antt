@@ -1,5 +1,4 @@
-use Rattle.std.proofs.Common.{◌≡◌, ◌<◌, ◌≤◌, length, subst, arith, rules}
-use Rattle.controls.specs.declared.events.Event.{Event}
+use Rattle.std.proofs.Common.{◌<◌, ◌≤◌, length, subst, rules}
 use Rattle.lines.specs.Running.{plan_waits}
 use Rattle.lines.proofs.Kept.{order_of}
 use Rattle.lines.proofs.Planning.{event_at, event_in}
