@@ -63,6 +63,7 @@ impl WaitTable {
     fn next_ready(&self, placed: &[bool; MOST_ROWS]) -> Option<Event>
         ensures { Next self.now.stages.count (asked self.now.stages.count self.now.told) (placed_by self.now.stages.count placed.now) result }
     {
+        // Rows and no chain of them: what is sought is the event, and each is looked at with two tests.
         for row in 0..self.stages.rows() {
             let event = self.stages.event_at(row);
             if !self.stages.is_placed(placed, event) && self.is_ready(placed, event) {

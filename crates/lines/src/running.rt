@@ -47,6 +47,8 @@ impl Stages {
     }
 }
 
+// The row and the sheet go through as they are: a struct that held both `&mut` would say in each contract that it holds the same
+// ones still, and that the sheet is wide enough besides.
 impl Plan {
     // Works out an event of the plan for the part at the index.
     fn place_event<R: Row>(
@@ -100,6 +102,7 @@ impl Plan {
         ensures row { RowLoadedWith self.now.table.stages.count (λ i. rows self.now.table.stages.count (length book.now.parts.items) sheet.new (Release i)) (R.meanings row.old) (R.meanings row.new) }
     {
         row.fresh();
+        // The index is the part's place in every row of the sheet, and not only in the book.
         for index in 0..book.parts().len() {
             self.run_part(row, book, sheet, index);
         }
