@@ -26,12 +26,8 @@ fn tell_event<C: Control>(
     event: Event,
 ) -> io::Result<()> {
     print!(rt; "{event} waits for")?;
-    for (place, wait) in control
-        .waits(cards, event)
-        .into_iter()
-        .flatten()
-        .enumerate()
-    {
+    let waits = control.waits(cards, event).into_iter().flatten();
+    for (place, wait) in waits.enumerate() {
         let before = if place == 0 { " " } else { "; " };
         print!(rt; "{before}{wait}")?;
     }
