@@ -1,5 +1,5 @@
 -- Induction over parts and, within a part, over steps; and what `at`, `latest` and `Each` give.
-use Rattle.std.proofs.Common.{◌≡◌, ℕ, zero, suc, ◌-◌, ◌<◌, ◌≤◌, ◌⊎◌, List, [], ◌∷◌, ◌++◌, map, length, take, sym, refl, subst, inl, inr, not-suc-le-zero, lt-suc_self, arith, get_or-take}
+use Rattle.std.proofs.Common.{◌≡◌, ℕ, zero, suc, ◌-◌, ◌<◌, ◌≤◌, ◌⊎◌, List, [], ◌∷◌, map, take, sym, refl, subst, inl, inr, not-suc-le-zero, lt-suc_self, arith, get_or-take}
 use Rattle.std.specs.List.{AllByRecursion, AllZip}
 use native.Mathlib.Decide.{ℕ_discrete}
 use Rattle.controls.specs.Lists.{latest}
@@ -30,10 +30,6 @@ source_before step f e n L h fits =
 pub at_take : (k : ℕ) (xs : List ℕ) (n : ℕ) → n ≤ k → at (take k xs) n ≡ at xs n
 at_take k xs zero h = refl
 at_take k xs (suc p) h = get_or-take k xs p 0 h
-
-pub at_end : (xs : List ℕ) (x : ℕ) → at (xs ++ x ∷ []) (suc (length xs)) ≡ x
-at_end [] x = refl
-at_end (y ∷ xs) x = at_end xs x
 
 pub latest_mono : {A : Type 0} (f g : A → ℕ) (ws : List A) → AllByRecursion (λ w. f w ≤ g w) ws → latest (map f ws) ≤ latest (map g ws)
 latest_mono f g [] h = omega arith

@@ -1,6 +1,7 @@
 -- What the comparison gives, over every lawful control and every lawful row.
-use Rattle.std.proofs.Common.{◌≡◌, ℕ, zero, suc, ◌≤◌, List, [], ◌∷◌, ◌++◌, length, take, sym, refl, ap, ◌∙◌, arith, length-append, length-take-le, ext_get_or}
+use Rattle.std.proofs.Common.{◌≡◌, ℕ, zero, suc, ◌≤◌, List, [], ◌∷◌, ◌++◌, length, take, sym, refl, ◌∙◌, arith, length-append, length-take-le, ext_get_or}
 use Rattle.std.specs.List.{AllByRecursion}
+use Rattle.std.proofs.lemmas.List.Elements.{length_all_zip}
 use lib.ListN.{get_or-append}
 use Rattle.controls.specs.declared.events.Event.{Event}
 use Rattle.controls.specs.declared.events.Wait.{Wait}
@@ -15,12 +16,6 @@ use Rattle.controls.specs.Claims.{Setting, MoreCards, Unique, AddedAtEnd, Better
 use Rattle.controls.proofs.Basics.{at_take}
 use Rattle.controls.proofs.Steady.{steady}
 use Rattle.controls.proofs.Compare.{compared}
-
-pub rise_length : (K L : List ℕ) → Rise K L → length K ≡ length L
-rise_length [] [] h = refl
-rise_length [] (l ∷ L) h = absurd h
-rise_length (k ∷ K) [] h = absurd h
-rise_length (k ∷ K) (l ∷ L) h = ap suc (rise_length K L h.1)
 
 below_refl : (xs : List ℕ) → Below xs xs
 below_refl [] = tt
@@ -64,7 +59,7 @@ rise_setting :
     {C : Meaning} {N : ℕ} {K L : List ℕ} {row : Row} {calls : List ℕ} → LawfulControl C → Rise K L → Setting C N K row calls
     → Setting C N L row calls
 rise_setting {N = N} {K = K} {L = L} laws rise few = record {
-  fits = record { stages = few.fits.stages; count = sym (rise_length K L rise) ∙ few.fits.count };
+  fits = record { stages = few.fits.stages; count = sym (length_all_zip ◌≤◌ K L rise) ∙ few.fits.count };
   lawful = laws.rises N K L few.fits rise few.lawful;
   row_lawful = few.row_lawful;
   calls_lawful = few.calls_lawful;

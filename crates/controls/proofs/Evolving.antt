@@ -111,3 +111,5 @@ extended_evolves N K row calls t times n pos le = record {
       omega arith;
   delivery = delivered on_call (extended_release N K) N K row calls t times n pos le;
 }
+
+pub ruleset equations = (base_evolves, kanban_evolves, general_evolves, extended_evolves)

@@ -1,9 +1,9 @@
 -- Lawful counts have a table of times.
-use Rattle.std.proofs.Common.{◌≡◌, ℕ, zero, suc, ◌-◌, ◌≤◌, List, [], ◌∷◌, ◌++◌, map, length, take, sym, refl, ap, ◌∙◌, subst, inl, inr, arith, length-append, length-take-le, take_all, take-take, ext_get_or}
-use Rattle.std.specs.List.{AllByRecursion}
+use Rattle.std.proofs.Common.{◌≡◌, ℕ, zero, suc, ◌+◌, ◌-◌, ◌<◌, ◌≤◌, List, ◌∷◌, map, length, take, sym, refl, ap, ◌∙◌, subst, inl, inr, arith, length-take-le, take-take, ext_get_or}
+use Rattle.std.specs.List.{AllByRecursion, range_with_len}
+use Rattle.std.proofs.lemmas.List.FromFn.{length-map-range_with_len, get_or-map-range_with_len, take-map-range_with_len}
 use mathlib.Core.WellFounded.{Acc, WellFounded, fix, fix-eq}
 use native.Mathlib.Decide.{ℕ_discrete, dec_lt}
-use lib.Seq.{take-append-le}
 use Rattle.stations.specs.declared.numbers.StageNo.{StageNo}
 use Rattle.controls.specs.declared.events.Event.{Event}
 use Rattle.controls.specs.declared.events.Event.TheVariants.{Pass, Release, Completion, Delivery}
@@ -17,41 +17,21 @@ use Rattle.controls.specs.Lists.{latest}
 use Rattle.controls.specs.Times.{Row, Table, wait_end, TimesOf, Times}
 use Rattle.stations.specs.Lists.{at}
 use Rattle.controls.specs.Claims.{Exist}
-use Rattle.controls.proofs.Basics.{Before, by_parts_and_steps, source_before, at_take, at_end, each_map}
+use Rattle.controls.proofs.Basics.{Before, by_parts_and_steps, source_before, at_take, each_map}
 use Rattle.controls.proofs.Steady.{releases_granted}
 use Rattle.controls.proofs.Filling.{same_latest}
-use Rattle.controls.proofs.Consequences.{at_front}
 
 -- The list of f 1 to f n.
-list : (ℕ → ℕ) → ℕ → List ℕ
-list f zero = []
-list f (suc n) = list f n ++ f (suc n) ∷ []
-
-length_list : (f : ℕ → ℕ) (n : ℕ) → length (list f n) ≡ n
-unfolding list
-length_list f zero = refl
-length_list f (suc n) = length-append (list f n) (f (suc n) ∷ []) ∙ (let r = length_list f n in omega arith)
+abbrev list : (ℕ → ℕ) → ℕ → List ℕ
+list f n = map f (range_with_len 1 n)
 
 at_list : (f : ℕ → ℕ) → f 0 ≡ 0 → (m n : ℕ) → n ≤ m → at (list f m) n ≡ f n
-unfolding list
-at_list f z zero n h = let e : n ≡ 0 = omega arith in rw e (sym z)
-at_list f z (suc m) n h = elim (ℕ_discrete n (suc m)) [
-  | yes e ↦ rw e (subst (λ k. at (list f m ++ f (suc m) ∷ []) (suc k) ≡ f (suc m)) (length_list f m) (at_end (list f m) (f (suc m))))
-  | no ne ↦ at_front (list f m) (f (suc m) ∷ []) n (let r = length_list f m in omega arith) ∙ at_list f z m n (omega arith)
-]
+at_list f z m zero h = sym z
+at_list f z m (suc p) h = get_or-map-range_with_len f 1 m p (suc p) 0 h (omega arith)
 
-take_list : (f : ℕ → ℕ) (m n : ℕ) → n ≤ m → take n (list f m) ≡ list f n
-unfolding list
-take_list f zero n h = let e : n ≡ 0 = omega arith in rw e refl
-take_list f (suc m) n h = elim (ℕ_discrete n (suc m)) [
-  | yes e ↦ rw e (take_all (suc m) (list f (suc m)) (let r = length_list f (suc m) in omega arith))
-  | no ne ↦ take-append-le n (list f m) (f (suc m) ∷ []) (let r = length_list f m in omega arith) ∙ take_list f m n (omega arith)
-]
-
-same_list : (f g : ℕ → ℕ) (n : ℕ) → ((j : ℕ) → j ≤ n → f j ≡ g j) → list f n ≡ list g n
-unfolding list
-same_list f g zero h = refl
-same_list f g (suc n) h = λ i. same_list f g n (λ j l. h j (omega arith)) i ++ h (suc n) (omega arith) i ∷ []
+same_list : (f g : ℕ → ℕ) (a n : ℕ) → ((j : ℕ) → j < a + n → f j ≡ g j) → map f (range_with_len a n) ≡ map g (range_with_len a n)
+same_list f g a zero h = refl
+same_list f g a (suc n) h = λ i. h a (omega arith) i ∷ same_list f g (a + 1) n (λ j l. h j (omega arith)) i
 
 pick : {P : Type 0} → Dec P → (P → ℕ) → ℕ
 pick (yes p) f = f p
@@ -163,12 +143,12 @@ module _ (N : ℕ) (waits : Event → List Wait) (row : Row) (calls : List ℕ) 
   departed i i_in (suc p) pos le =
       at_table (Completion i) (suc p) le ∙ minute_is (Completion i) (suc p) ∙
       ap (λ xs. at (row i xs) (suc p))
-      (same_list (λ j. seen (Completion i, suc p) (Release i, j)) (minute (Release i)) (suc p) (λ j h. seen_is (Completion i, suc p) (Release i, j) (released i i_in (suc p) j h))
-      ∙ sym (take_list (minute (Release i)) (length calls) (suc p) le))
+      (same_list (λ j. seen (Completion i, suc p) (Release i, j)) (minute (Release i)) 1 (suc p) (λ j h. seen_is (Completion i, suc p) (Release i, j) (released i i_in (suc p) j (omega arith)))
+      ∙ sym (take-map-range_with_len (minute (Release i)) 1 (length calls) (suc p) le))
 
   sized : (e : Event) → length (table e) ≡ length calls
   unfolding table
-  sized e = length_list (minute e) (length calls)
+  sized e = length-map-range_with_len (minute e) 1 (length calls)
 
   abbrev Done : Event → ℕ → Type 0
   Done (Pass i) n = Unit

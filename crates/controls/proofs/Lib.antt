@@ -6,3 +6,4 @@ pub mod Consequences
 pub mod Filling
 pub mod Existence
 pub mod Evolving
+pub mod Proved

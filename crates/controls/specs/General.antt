@@ -1,4 +1,4 @@
-use Rattle.std.specs.Prelude.{ℕ, ◌+◌, cond, List, [], ◌∷◌, nat_lt}
+use Rattle.std.specs.Prelude.{ℕ, ◌+◌, if◌then◌else◌, List, [], ◌∷◌, nat_lt}
 use Rattle.stations.specs.declared.numbers.StageNo.{StageNo}
 use Rattle.stations.specs.Lists.{at}
 use Rattle.controls.specs.declared.events.Event.TheVariants.{Pass, Completion}
@@ -9,7 +9,7 @@ use Rattle.controls.specs.Stages.{stage, staged, carded}
 
 -- Pass i waits on pass i + 1 of the same part, pass N on the call.
 abbrev pub next_pass : ℕ → StageNo → Wait
-next_pass N i = cond (nat_lt i.0 N) (After (Pass (stage (i.0 + 1))) 0) Call
+next_pass N i = if nat_lt i.0 N then After (Pass (stage (i.0 + 1))) 0 else Call
 
 -- Pass i waits besides on completion i with lag K(i).
 abbrev pub general_pass : ℕ → List ℕ → StageNo → List Wait

@@ -1,4 +1,4 @@
-use Rattle.std.specs.Prelude.{ℕ, zero, suc, ◌+◌, Bool, cond, ◌&&◌, leb, List, [], ◌∷◌, ◌++◌, nat_le, nat_lt}
+use Rattle.std.specs.Prelude.{ℕ, zero, suc, ◌+◌, Bool, if◌then◌else◌, ◌&&◌, List, [], ◌∷◌, ◌++◌, nat_le, nat_lt}
 use Rattle.std.specs.List.{list_all, range_with_len}
 use Rattle.stations.specs.declared.numbers.StageNo.{StageNo}
 use Rattle.stations.specs.Lists.{at}
@@ -17,7 +17,7 @@ is_stage N i = nat_le 1 i.0 && nat_le i.0 N
 
 -- The waits of an event of stage i, none where the line has no such stage.
 abbrev pub at_stage : ℕ → StageNo → List Wait → List Wait
-at_stage N i ws = cond (is_stage N i) ws []
+at_stage N i ws = if is_stage N i then ws else []
 
 -- An event of a stage that waits on the call alone.
 abbrev pub on_call : StageNo → List Wait
@@ -42,7 +42,7 @@ staged pass release N K Delivery = delivery N K
 
 -- Release i + 1, after release N the delivery.
 abbrev pub next_release : ℕ → StageNo → Event
-next_release N i = cond (nat_lt i.0 N) (Release (stage (i.0 + 1))) Delivery
+next_release N i = if nat_lt i.0 N then Release (stage (i.0 + 1)) else Delivery
 
 -- The test holds of stages 1 to n.
 abbrev pub every : (ℕ → Bool) → ℕ → Bool
@@ -50,4 +50,4 @@ every test n = list_all test (range_with_len 1 n)
 
 -- Each of the n counts that follow the first so many is 1 or more.
 abbrev pub carded : ℕ → List ℕ → ℕ → Bool
-carded first K n = every (λ i. leb 1 (at K (first + i))) n
+carded first K n = every (λ i. nat_le 1 (at K (first + i))) n

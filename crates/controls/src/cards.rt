@@ -39,6 +39,7 @@ impl Cards<'_> {
     pub(crate) fn all_carded(&self, first: u32) -> bool
         ensures { result ≡ carded first self.now.counts.now self.now.stages }
     {
+        // Not 1..=n: the library lists the items of n..m alone, and the proof over 1..=n did not close.
         (1..self.stages as usize + 1).all(|i| self.count_at(first as usize + i) > 0)
     }
 

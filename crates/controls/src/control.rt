@@ -18,7 +18,8 @@ pub trait Control {
     fn is_lawful(&self, cards: Cards<'_>) -> bool
         ensures { result ≡ (meaning self.now).lawful cards.entry.stages cards.entry.counts.now };
 
-    // What the event waits for in the line with these cards. A completion, and an event that the line does not have, has no waits.
+    // What the event waits for in the line with these cards. A completion, and an event that the line does not have,
+    // has no waits.
     fn waits(&self, cards: Cards<'_>, event: Event) -> [Option<Wait>; 3]
         ensures { somes result ≡ (meaning self.now).waits cards.entry.stages cards.entry.counts.now event };
 

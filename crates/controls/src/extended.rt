@@ -6,8 +6,8 @@ use crate::cards::Cards;
 use crate::control::Control;
 use crate::events::{Event, Wait};
 
-// Extended kanban: each stage is given a part at every call, no more parts ahead of the next stage than it has spare cards. It has
-// the counts S1..SN, the stocks of finished parts, then F1..FN, the spare cards.
+// Extended kanban: each stage is given a part at every call, no more parts ahead of the next stage than it has spare
+// cards. It has the counts S1..SN, the stocks of finished parts, then F1..FN, the spare cards.
 #[derive(Clone, Copy)]
 pub struct Extended;
 
@@ -28,6 +28,7 @@ impl Control for Extended {
 
     fn is_lawful(&self, cards: Cards<'_>) -> bool {
         let half = cards.stages as usize;
+        // Not 1..=half: as in Cards::all_carded, its proof did not close.
         (1..half + 1).all(|i| cards.count_at(i) > 0 || cards.count_at(half + i) > 0)
     }
 

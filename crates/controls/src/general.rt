@@ -8,8 +8,8 @@ use crate::control::Control;
 use crate::events::{Event, Wait};
 use stations::numbers::StageNo;
 
-// Generalized kanban: a call is passed from the last stage to the first, each time with a card, and a stage is given a part when
-// the call is passed to it. It has the counts S1..SN, the stocks of finished parts, then K1..KN, the cards.
+// Generalized kanban: a call is passed from the last stage to the first, each time with a card, and a stage is given a
+// part when the call is passed to it. It has the counts S1..SN, the stocks of finished parts, then K1..KN, the cards.
 #[derive(Clone, Copy)]
 pub struct General;
 

@@ -6,8 +6,8 @@ use crate::cards::Cards;
 use crate::control::Control;
 use crate::events::{Event, Wait};
 
-// Kanban: each stage is given a part when the next one is, the last one at a delivery. It has the counts K1..KN, the cards, which
-// are the stocks of finished parts too.
+// Kanban: each stage is given a part when the next one is, the last one at a delivery. It has the counts K1..KN, the
+// cards, which are the stocks of finished parts too.
 #[derive(Clone, Copy)]
 pub struct Kanban;
 

@@ -3,6 +3,7 @@ ghost use Rattle.controls.specs.Claims.{Compared, MoreCards, Exist, Unique, Adde
 use crate::control::Control;
 
 // What holds of the times of every line, whatever its control and its stations.
+#[tactic(auto, using(crate::proofs::Proved::claims))]
 pub fn times_stand<C: Control>()
     ensures compared { (c : C) → Compared (C.Control.meaning c) }
     ensures cards { (c : C) → MoreCards (C.Control.meaning c) }

@@ -38,22 +38,19 @@ fn a_book_of_128(rt: HostRuntime) -> Result<(), Fail> {
     Ok(())
 }
 
-// The fault of maxima that no board can have.
-fn refused(rt: &(impl Abort + AllocGlobal), maxima: &[u32]) -> Result<(), Fail> {
-    match Board::new(rt.alloc(), maxima) {
-        Ok(_) => Err(Fail::new("it is made")),
-        Err(fault) => {
-            assert_eq!(rt; fault, BoardFault::OffRange);
-            Ok(())
-        },
-    }
+// No board can have these maxima.
+fn refused(rt: &(impl Abort + AllocGlobal), maxima: &[u32]) {
+    assert_eq!(rt;
+        Board::new(rt.alloc(), maxima).err(),
+        Some(BoardFault::OffRange)
+    );
 }
 
 #[test]
 fn boards(rt: HostRuntime) -> Result<(), Fail> {
-    refused(&rt, &[])?;
-    refused(&rt, &[1; 17])?;
-    refused(&rt, &[64, 65])?;
+    refused(&rt, &[]);
+    refused(&rt, &[1; 17]);
+    refused(&rt, &[64, 65]);
     let mut board = Board::new(rt.alloc(), &[64, 3])?;
     assert!(rt; board.counts() == [64, 3].as_slice());
     assert_eq!(rt; board.set(PlaceNo(0), 1), Err(BoardFault::OffRange));

@@ -1,13 +1,11 @@
 // Tells for a control, a number of stages and counts whether they are lawful, and what every event of a part waits for.
 #![tactic(auto)]
 
-mod words;
-
 use controls::base::Base;
+use controls::cards::Cards;
 use controls::control::Control;
 use controls::events::Event;
 use controls::extended::Extended;
-use controls::fixed::Fixed;
 use controls::general::General;
 use controls::kanban::Kanban;
 use inquiries::names::ControlName;
@@ -16,7 +14,6 @@ use stations::numbers::StageNo;
 use std::io;
 use std::io::Read;
 use std::process::ExitCode;
-use words::{EventWords, WaitWords};
 
 // More than any inquiry has.
 const MOST_READ: u64 = 1_024;
@@ -25,53 +22,42 @@ const MOST_READ: u64 = 1_024;
 fn tell_event<C: Control>(
     rt: &HostRuntime,
     control: &C,
-    stages: u32,
-    counts: &[u32],
+    cards: Cards<'_>,
     event: Event,
 ) -> io::Result<()> {
-    let words = EventWords(event);
-    print!(rt; "{words} waits for")?;
-    let mut before = " ";
-    for wait in control.waits(stages, counts, event) {
-        if let Some(wait) = wait {
-            let wait = WaitWords(wait);
-            print!(rt; "{before}{wait}")?;
-            before = "; ";
-        }
+    print!(rt; "{event} waits for")?;
+    let waits = control.waits(cards, event).into_iter().flatten();
+    for (place, wait) in waits.enumerate() {
+        let before = if place == 0 { " " } else { "; " };
+        print!(rt; "{before}{wait}")?;
     }
     println!(rt; "")
 }
 
-// Tells what every event waits for.
-fn tell_events<C: Control>(
+// Tells what an event of every stage waits for.
+fn tell_stages<C: Control, F: Fn(StageNo) -> Event>(
     rt: &HostRuntime,
     control: &C,
-    stages: u32,
-    counts: &[u32],
-) -> io::Result<()> {
-    for earlier in 0..stages {
-        tell_event(
-            rt,
-            control,
-            stages,
-            counts,
-            Event::Pass(StageNo(earlier + 1)),
-        )?;
+    cards: Cards<'_>,
+    event: F,
+) -> io::Result<()>
+    requires { F.IsAlwaysCallable event }
+{
+    for stage in 1..=cards.stages {
+        tell_event(rt, control, cards, event(StageNo(stage)))?;
     }
-    for earlier in 0..stages {
-        tell_event(
-            rt,
-            control,
-            stages,
-            counts,
-            Event::Release(StageNo(earlier + 1)),
-        )?;
+    Ok(())
+}
+
+// Tells what every event waits for.
+fn tell_events<C: Control>(rt: &HostRuntime, control: &C, cards: Cards<'_>) -> io::Result<()> {
+    tell_stages(rt, control, cards, Event::Pass)?;
+    tell_stages(rt, control, cards, Event::Release)?;
+    for stage in 1..=cards.stages {
+        let completion = Event::Completion(StageNo(stage));
+        println!(rt; "{completion} is when the part leaves station {stage}")?;
     }
-    for earlier in 0..stages {
-        let stage = earlier + 1;
-        println!(rt; "completion {stage} is when the part leaves station {stage}")?;
-    }
-    tell_event(rt, control, stages, counts, Event::Delivery)
+    tell_event(rt, control, cards, Event::Delivery)
 }
 
 // Tells whether the counts fit and are lawful, and then of the events.
@@ -79,18 +65,19 @@ fn tell<C: Control>(rt: &HostRuntime, control: &C, inquiry: &Inquiry) -> io::Res
     let stages = inquiry.stages;
     let counts = inquiry.counts.as_slice();
     let name = inquiry.control.word();
-    let wanted = C::COUNTS_PER_STAGE.get() * stages as usize;
+    let wanted = C::COUNTS_PER_STAGE as usize * stages as usize;
     let given = counts.len();
     println!(rt; "control {name}: {wanted} places for {stages} stages, {given} counts given")?;
     if given != wanted {
         return println!(rt; "the counts do not fit the control");
     }
-    if control.is_lawful(stages, counts) {
+    let cards = Cards { stages, counts };
+    if control.is_lawful(cards) {
         println!(rt; "the counts are lawful")?;
     } else {
         println!(rt; "the counts are not lawful")?;
     }
-    tell_events(rt, control, stages, counts)
+    tell_events(rt, control, cards)
 }
 
 // Answers an inquiry about a line of 1 to 8 stages.
@@ -99,6 +86,7 @@ fn answer(rt: &HostRuntime, inquiry: &Inquiry) -> io::Result<ExitCode> {
         eprintln!(rt; "line 2 refused 5: the stages are not 1 to 8")?;
         return Ok(ExitCode::FAILURE);
     }
+    // A match by name: each control is a type of its own, and a `dyn Control` cannot have the constant.
     match inquiry.control {
         ControlName::Base => tell(rt, &Base, inquiry)?,
         ControlName::Kanban => tell(rt, &Kanban, inquiry)?,

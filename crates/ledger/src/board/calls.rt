@@ -9,16 +9,12 @@ use std::alloc::Global;
 impl Board {
     // A board that stands at these maxima.
     pub fn new(heap: Global, maxima: &[u32]) -> Result<Board, BoardFault>
-        ensures { MatchResult result (λ b. Fit maxima.now × (b.counts.items ≡ maxima.now) × (b.maxima.items ≡ maxima.now))
+        ensures { MatchResult result
+            (λ b. Fit maxima.now × (b.counts.items ≡ maxima.now) × (b.maxima.items ≡ maxima.now))
             (λ e. elim e [ OffRange ↦ (Fit maxima.now → ⊥) | NoMemory ↦ Fit maxima.now ]) }
     {
-        if maxima.len() < 1 || maxima.len() > 16 {
+        if maxima.len() < 1 || maxima.len() > 16 || maxima.iter().any(|maximum| *maximum > 64) {
             return Err(BoardFault::OffRange);
-        }
-        for maximum in maxima {
-            if *maximum > 64 {
-                return Err(BoardFault::OffRange);
-            }
         }
         let counts = Vec::from_slice(heap, maxima)?;
         let maxima = Vec::from_slice(heap, maxima)?;
@@ -42,7 +38,8 @@ impl Board {
     // Writes the count of one place.
     pub fn set(&mut self, place: PlaceNo, count: u32) -> Result<(), BoardFault>
         ensures answer { result ≡ (if settable self.old.maxima.items place.0 count then Ok tt else Err OffRange) }
-        ensures counts { self.new.counts.items ≡ counts_after (settable self.old.maxima.items place.0 count) self.old.counts.items place.0 count }
+        ensures counts { self.new.counts.items
+            ≡ counts_after (settable self.old.maxima.items place.0 count) self.old.counts.items place.0 count }
         ensures maxima { self.new.maxima ≡ self.old.maxima }
     {
         let at = place.0 as usize;

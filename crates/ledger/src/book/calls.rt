@@ -30,16 +30,14 @@ impl Book {
     fn last_call(&self) -> u32
         ensures { result ≡ last_call self.now.parts.items }
     {
-        match self.parts.last() {
-            Some(booking) => booking.call,
-            None => 0,
-        }
+        self.parts.last().map_or(0, |booking| booking.call)
     }
 
     // Books a part behind those that stand.
     pub fn book(&mut self, call: u32, due: u32) -> Result<(), BookFault>
         ensures answer { result ≡ booked self.old.parts.items call due }
-        ensures after { self.new.parts.items ≡ with_booking (booked self.old.parts.items call due) self.old.parts.items call due }
+        ensures after { self.new.parts.items
+            ≡ with_booking (booked self.old.parts.items call due) self.old.parts.items call due }
     {
         if self.parts.len() >= MOST_PARTS {
             return Err(BookFault::Full);
@@ -59,9 +57,6 @@ impl Book {
         ensures answer { result ≡ withdrawn self.old.parts.items }
         ensures after { self.new.parts.items ≡ without_last self.old.parts.items }
     {
-        match self.parts.pop() {
-            Some(_) => Ok(()),
-            None => Err(BookFault::Empty),
-        }
+        self.parts.pop().map(|_| ()).ok_or(BookFault::Empty)
     }
 }
