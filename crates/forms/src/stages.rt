@@ -1,8 +1,9 @@
-ghost use Rattle.std.specs.Prelude.{◌≡◌, ℕ, List, ◌++◌, codes, Decides, MatchBool, Option as OptionOf, MatchOption, MatchResult, ◌≢◌};
+ghost use Rattle.std.specs.Prelude.{◌≡◌, ℕ, List, ◌++◌, codes, Option as OptionOf, MatchResult, ◌≢◌};
 ghost use Rattle.std.specs.Option.{option_map};
 ghost use Rattle.forms.specs.Forms.{Low, Word};
 ghost use Rattle.forms.specs.Reading.{left, Says, SaysNothing, Reads, ReadsTwo, ReadsThree};
 ghost use Rattle.forms.specs.Stages.{core_word, one, core_text, LowCore, piece_text, travel_text, LowTravel, Moveless, week_text, WordWeek, stage_said, StageFits, stage_rest};
+ghost use Rattle.forms.specs.declared.cursor.FormFault.TheVariants.{UnknownWord};
 ghost use Rattle.forms.specs.declared.stages.CoreWord.{CoreWord as CoreWordType};
 
 use crate::cursor::{Cursor, FormFault};
@@ -34,43 +35,32 @@ enum CoreWord {
     Oven,
 }
 
-// The core word that `word` is, if it is one.
-fn core_named(word: &[u8]) -> Option<CoreWord>
-    ensures { MatchOption result ((k : CoreWordType) → word.now ≢ core_word k) (λ k. word.now ≡ core_word k) }
-{
-    match word {
-        b"machine" => Some(CoreWord::Machine),
-        b"oven" => Some(CoreWord::Oven),
-        _ => None,
+impl TryFrom<&[u8]> for CoreWord {
+    type Error = FormFault;
+
+    ghost try_from_gives = { λ word r. MatchResult r (λ k. word.now ≡ core_word k) (λ e. (e ≡ UnknownWord) × ((k : CoreWordType) → word.now ≢ core_word k)) };
+
+    fn try_from(word: &[u8]) -> Result<CoreWord, FormFault> {
+        match word {
+            b"machine" => Ok(CoreWord::Machine),
+            b"oven" => Ok(CoreWord::Oven),
+            _ => Err(FormFault::UnknownWord),
+        }
     }
 }
 
-// Whether `word` is `name`.
-fn same_word(word: &[u8], name: &[u8]) -> bool
-    ensures { Decides result (word.now ≡ name.now) }
-{
-    word == name
-}
-
 impl<'f> Cursor<'f> {
-    // Goes past a space, a bracket, the word `name` and a space, if they are next, and says whether they were.
-    fn piece(&mut self, name: &[u8]) -> bool
+    // What follows a space, the opening of the form `name` and a space.
+    #[tactic(auto, using(std::proofs::lemmas::List::append_cancel_left))]
+    fn piece(mut self, name: &[u8]) -> Result<Cursor<'f>, FormFault>
         requires { Word name.now }
-        ensures { MatchBool result (left self.old ≡ piece_text name.now (left self.new))
-            ((left self.new ≡ left self.old) × ((x : List ℕ) → left self.old ≢ piece_text name.now x)) }
+        ensures { MatchResult result (λ after. left self.entry ≡ piece_text name.now (left after))
+            (λ _. (x : List ℕ) → left self.entry ≢ piece_text name.now x) }
     {
-        let mut ahead = *self;
-        if !ahead.accept(' ') || !ahead.accept('(') {
-            return false;
-        }
-        let Ok(word) = ahead.word() else {
-            return false;
-        };
-        if !same_word(word, name) || !ahead.accept(' ') {
-            return false;
-        }
-        *self = ahead;
-        true
+        self.expect(' ')?;
+        self.opening(name)?;
+        self.expect(' ')?;
+        Ok(self)
     }
 
     // The last number of a form, and its bracket.
@@ -107,12 +97,9 @@ impl<'f> Cursor<'f> {
         ensures { Reads LowCore core_text self.old self.new result }
     {
         self.expect('(')?;
-        let word = self.word()?;
-        let Some(kind) = core_named(word) else {
-            return Err(FormFault::UnknownWord);
-        };
+        let word = CoreWord::try_from(self.word()?)?;
         self.expect(' ')?;
-        match kind {
+        match word {
             CoreWord::Machine => {
                 let (places, minutes) = self.last_two()?;
                 Ok(CoreForm::Machine { places, minutes })
@@ -135,9 +122,10 @@ impl<'f> Cursor<'f> {
             × ((u : OptionOf ℕ) (x : List ℕ) → LowTravel u → Moveless x → left self.old ≡ travel_text u x → (t ≡ u) × (left self.new ≡ x)))
             (λ _. (u : OptionOf ℕ) (x : List ℕ) → LowTravel u → Moveless x → left self.old ≢ travel_text u x) }
     {
-        if !self.piece(b"move") {
+        let Ok(after) = self.piece(b"move") else {
             return Ok(None);
-        }
+        };
+        *self = after;
         let minutes = self.last_one()?;
         Ok(Some(minutes))
     }
@@ -149,9 +137,10 @@ impl<'f> Cursor<'f> {
             × ((u : OptionOf (List ℕ)) (x : List ℕ) → WordWeek u → left self.old ≡ week_text u (codes ")" ++ x) → (option_map (λ x. x.now) w ≡ u) × (left self.new ≡ codes ")" ++ x)))
             (λ _. (u : OptionOf (List ℕ)) (x : List ℕ) → WordWeek u → left self.old ≡ week_text u (codes ")" ++ x) → ⊥) }
     {
-        if !self.piece(b"week") {
+        let Ok(after) = self.piece(b"week") else {
             return Ok(None);
-        }
+        };
+        *self = after;
         let name = self.word()?;
         self.expect(')')?;
         Ok(Some(name))

@@ -8,13 +8,7 @@ fn letters(text: &[u8]) -> usize
     ensures letters { (i : ℕ) → i < result → IsInRange 97 122 (slice_index text.now i) }
     ensures stops { result < length text.now → IsInRange 97 122 (slice_index text.now result) → ⊥ }
 {
-    for (i, b) in text.iter().enumerate() {
-        match char::from(*b) {
-            'a'..='z' => {}
-            _ => return i,
-        }
-    }
-    text.len()
+    text.iter().position(|b| !matches!(char::from(*b), 'a'..='z')).unwrap_or(text.len())
 }
 
 // The word that `text` begins with, of 1 to 12 small letters, and what follows it.

@@ -6,8 +6,5 @@ use Rattle.forms.proofs.cursor.Cursor.core.Goals as goal
 pub returns-in_err-word : goal.returns-in_err-word
 returns-in_err-word c = search (rules, unspelled c.in_err-word.ensures.1 (codes "machine") 32, unspelled c.in_err-word.ensures.1 (codes "oven") 32)
 
-pub returns-in_err-expect-2 : goal.returns-in_err-expect-2
-returns-in_err-expect-2 c = search (rules, c.in_ok-word.ensures.1 (codes "machine") 32, c.in_ok-word.ensures.1 (codes "oven") 32)
-
-pub returns-in_default : goal.returns-in_default
-returns-in_default c = search (rules, c.in_default.ensures Machine, c.in_default.ensures Oven, c.in_ok-word.ensures.1 (codes "machine") 32, c.in_ok-word.ensures.1 (codes "oven") 32)
+pub returns-in_err-word-2 : goal.returns-in_err-word-2
+returns-in_err-word-2 c = search (rules, c.in_err-word-2.ensures.1 Machine, c.in_err-word-2.ensures.1 Oven, c.in_ok-word.ensures.1 (codes "machine") 32, c.in_ok-word.ensures.1 (codes "oven") 32)
