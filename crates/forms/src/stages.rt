@@ -1,8 +1,8 @@
 ghost use Rattle.std.specs.Prelude.{◌≡◌, ℕ, List, ◌++◌, codes, Option as OptionOf, MatchResult, ◌≢◌};
 ghost use Rattle.std.specs.Option.{option_map};
-ghost use Rattle.forms.specs.Forms.{Low, Word};
-ghost use Rattle.forms.specs.Reading.{left, Says, SaysNothing, Reads, ReadsTwo, ReadsThree};
-ghost use Rattle.forms.specs.Stages.{core_word, one, core_text, LowCore, piece_text, travel_text, LowTravel, Moveless, week_text, WordWeek, stage_said, StageFits, stage_rest};
+ghost use Rattle.forms.specs.Forms.{Word};
+ghost use Rattle.forms.specs.Reading.{left, Says, SaysNothing, Reads};
+ghost use Rattle.forms.specs.Stages.{core_word, last_text, LowEach, core_text, LowCore, piece_text, travel_text, LowTravel, Moveless, week_text, WordWeek, stage_said, StageFits, stage_rest};
 ghost use Rattle.forms.specs.declared.cursor.FormFault.TheVariants.{UnknownWord};
 ghost use Rattle.forms.specs.declared.stages.CoreWord.{CoreWord as CoreWordType};
 
@@ -63,33 +63,19 @@ impl<'f> Cursor<'f> {
         Ok(self)
     }
 
-    // The last number of a form, and its bracket.
-    pub fn last_one(&mut self) -> Result<u32, FormFault>
-        ensures { Reads Low one self.old self.new result }
+    // The last N numbers of a form, each but the first after a space, and its bracket.
+    pub fn last<const N: usize>(&mut self) -> Result<[u32; N], FormFault>
+        ensures { Reads (LowEach N) last_text self.old self.new result }
     {
-        let n = self.number()?;
+        let mut numbers = [0; N];
+        for (at, number) in numbers.iter_mut().enumerate() {
+            if at > 0 {
+                self.expect(' ')?;
+            }
+            *number = self.number()?;
+        }
         self.expect(')')?;
-        Ok(n)
-    }
-
-    // The last two.
-    pub fn last_two(&mut self) -> Result<(u32, u32), FormFault>
-        ensures { ReadsTwo self.old self.new result }
-    {
-        let first = self.number()?;
-        self.expect(' ')?;
-        let last = self.last_one()?;
-        Ok((first, last))
-    }
-
-    // The last three.
-    pub fn last_three(&mut self) -> Result<(u32, u32, u32), FormFault>
-        ensures { ReadsThree self.old self.new result }
-    {
-        let first = self.number()?;
-        self.expect(' ')?;
-        let (second, last) = self.last_two()?;
-        Ok((first, second, last))
+        Ok(numbers)
     }
 
     // The core of a stage, in its brackets.
@@ -101,11 +87,11 @@ impl<'f> Cursor<'f> {
         self.expect(' ')?;
         match word {
             CoreWord::Machine => {
-                let (places, minutes) = self.last_two()?;
+                let [places, minutes] = self.last::<2>()?;
                 Ok(CoreForm::Machine { places, minutes })
             }
             CoreWord::Oven => {
-                let (cycle, places, bake) = self.last_three()?;
+                let [cycle, places, bake] = self.last::<3>()?;
                 Ok(CoreForm::Oven {
                     cycle,
                     places,
@@ -126,7 +112,7 @@ impl<'f> Cursor<'f> {
             return Ok(None);
         };
         *self = after;
-        let minutes = self.last_one()?;
+        let [minutes] = self.last::<1>()?;
         Ok(Some(minutes))
     }
 
