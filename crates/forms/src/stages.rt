@@ -1,12 +1,14 @@
-ghost use Rattle.std.specs.Prelude.{◌≡◌, ℕ, List, ◌++◌, codes, Option as OptionOf, MatchResult, ◌≢◌};
+ghost use Rattle.std.specs.Prelude.{Some, ◌≡◌, ℕ, List, ◌++◌, codes, Option as OptionOf, MatchResult, ◌≢◌};
 ghost use Rattle.std.specs.Option.{option_map};
 ghost use Rattle.forms.specs.Forms.{Word};
 ghost use Rattle.forms.specs.Reading.{left, Says, SaysNothing, Reads};
 ghost use Rattle.forms.specs.Stages.{core_word, last_text, LowEach, core_text, LowCore, piece_text, travel_text, LowTravel, Moveless, week_text, WordWeek, stage_said, StageFits, stage_rest};
+ghost use Rattle.forms.specs.Shown.{text_of, core_line, stage_shown};
 ghost use Rattle.forms.specs.declared.cursor.FormFault.TheVariants.{UnknownWord};
 ghost use Rattle.forms.specs.declared.stages.CoreWord.{CoreWord as CoreWordType};
 
 use crate::cursor::{Cursor, FormFault};
+use std::fmt;
 
 // How a stage works.
 #[derive(Clone, Copy, PartialEq, Eq, Debug)]
@@ -26,6 +28,49 @@ pub struct StageForm<'f> {
     pub travel: Option<u32>,
     // the name of `(week NAME)`
     pub week: Option<&'f [u8]>,
+}
+
+// A word as text, or none where it is no text.
+fn text_of(word: &[u8]) -> &str
+    ensures { result.now ≡ text_of word.now }
+{
+    match str::from_utf8(word) {
+        Ok(text) => text,
+        Err(_) => "",
+    }
+}
+
+impl fmt::Display for CoreForm {
+    ghost output = { λ core. Some (core_line core) };
+
+    fn fmt<W: fmt::Write>(&self, f: &mut fmt::Formatter<W>) -> fmt::Result {
+        match *self {
+            CoreForm::Machine { places, minutes } => {
+                write!(f, "machine of {places} places, {minutes} minutes")
+            }
+            CoreForm::Oven {
+                cycle,
+                places,
+                bake,
+            } => write!(f, "oven of {places} places, cycle {cycle}, bake {bake}"),
+        }
+    }
+}
+
+// What the station is made of.
+impl fmt::Display for StageForm<'_> {
+    ghost output = { λ stage. Some (stage_shown stage) };
+
+    fn fmt<W: fmt::Write>(&self, f: &mut fmt::Formatter<W>) -> fmt::Result {
+        write!(f, "station {}: {}", text_of(self.name), self.core)?;
+        if let Some(minutes) = self.travel {
+            write!(f, ", move {minutes}")?;
+        }
+        if let Some(week) = self.week {
+            write!(f, ", week {}", text_of(week))?;
+        }
+        Ok(())
+    }
 }
 
 // The word that a core begins with.

@@ -14,7 +14,7 @@ pub returns-in_err-number : goal.returns-in_err-number
 returns-in_err-number g c =
     let e : spaced_left c.loop-at.at (left c.loop-at.self) ≡ 32 ∷ left c.if-at-gt0.self =
     elim c.if-at-gt0.branch [
-      then-at-gt0+in_ok-expect w ↦ let a = spaced_later c.loop-at.at (left c.loop-at.self) w.if-at-gt0.true in let b = w.in_ok-expect.ensures in let s = w.self-is in cc
+      | then-at-gt0+in_ok-expect w ↦ let a = spaced_later c.loop-at.at (left c.loop-at.self) w.if-at-gt0.true in let b = w.in_ok-expect.ensures in let s = w.self-is in cc
       | else-at-gt0 w ↦ let a = spaced_first c.loop-at.at (left c.loop-at.self) w.if-at-gt0.false in let s = w.self-is in cc
     ] in
     search (rules, last_unread c.loop-at.invariant c.loop-at-test.true e c.in_err-number.ensures.1)
@@ -23,7 +23,7 @@ pub loop-at-preserved : goal.loop-at-preserved
 loop-at-preserved g c =
     let e : spaced_left c.loop-at.at (left c.loop-at.self) ≡ 32 ∷ left c.if-at-gt0.self =
     elim c.if-at-gt0.branch [
-      then-at-gt0+in_ok-expect w ↦ let a = spaced_later c.loop-at.at (left c.loop-at.self) w.if-at-gt0.true in let b = w.in_ok-expect.ensures in let s = w.self-is in cc
+      | then-at-gt0+in_ok-expect w ↦ let a = spaced_later c.loop-at.at (left c.loop-at.self) w.if-at-gt0.true in let b = w.in_ok-expect.ensures in let s = w.self-is in cc
       | else-at-gt0 w ↦ let a = spaced_first c.loop-at.at (left c.loop-at.self) w.if-at-gt0.false in let s = w.self-is in cc
     ] in
     last_more c.loop-at.invariant c.loop-at-test.true e c.in_ok-number.ensures.0 c.in_ok-number.ensures.1
