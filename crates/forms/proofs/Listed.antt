@@ -160,7 +160,7 @@ pub last_unread :
 last_unread {count} h few e out ns x low is = some h e out ns x low.1 (of_last ns x low (omega arith) is)
 
 -- all numbers are read: such numbers are these, and the bracket is next
-last_all : (vs ns x rest : List ℕ) (more : List ℕ) → ns ≡ vs ++ more → rest ≡ spaced more ++ (41 ∷ x) → length ns ≡ length vs → (vs ≡ ns) × (rest ≡ 41 ∷ x)
+pub last_all : (vs ns x rest : List ℕ) (more : List ℕ) → ns ≡ vs ++ more → rest ≡ spaced more ++ (41 ∷ x) → length ns ≤ length vs → (vs ≡ ns) × (rest ≡ 41 ∷ x)
 last_all vs ns x rest [] s is e = (sym (s ∙ append-nil vs), is)
 last_all vs ns x rest (m ∷ ms) s is e = absurd (omega (arith, ap length s, length-append vs (m ∷ ms), e))
 
