@@ -1,5 +1,5 @@
 -- The look-ups of a week: counted minute by minute, shift by shift, and back.
-use Rattle.std.proofs.Common.{◌≡◌, ℕ, zero, suc, ◌+◌, ◌-◌, ◌*◌, ◌/◌, ◌%◌, ◌^◌, ◌<◌, ◌≤◌, min, Bool, true, false, cond, ◌&&◌, ◌||◌, ltb, leb, List, [], ◌∷◌, ◌++◌, length, get_or, take, drop, refl, ap, ◌∙◌, mul-le-mul_right, mod-lt, add-mul, mul-le-mul_left, one-mul, div-add-mod', arith}
+use Rattle.std.proofs.Common.{◌≡◌, ℕ, zero, suc, ◌+◌, ◌-◌, ◌*◌, ◌/◌, ◌%◌, ◌^◌, ◌<◌, ◌≤◌, min, Bool, true, false, cond, ◌&&◌, ◌||◌, ltb, leb, List, [], ◌∷◌, ◌++◌, length, get_or, take, refl, ap, ◌∙◌, mul-le-mul_right, mod-lt, add-mul, mul-le-mul_left, one-mul, div-add-mod', arith}
 use native.Mathlib.Decide.{dec_le}
 use Rattle.std.proofs.lemmas.Bool.{le-leb, lt-leb, leb-true, ltb-true, lt-ltb, le-ltb, and_parts, and_from, and_left, and_right, or_left}
 use Rattle.std.proofs.lemmas.List.Sums.{sum_by-cons}
@@ -8,7 +8,6 @@ use Rattle.calendar.specs.WeekLaw.{Adjoint, Opens}
 use Rattle.calendar.specs.WeekOf.{shifts_of}
 use Rattle.calendar.specs.declared.shifts.Shift.{Shift}
 use Rattle.calendar.specs.declared.week.Week.{Week}
-use Rattle.calendar.proofs.Refusing.{drop_step, drop_end}
 
 -- The shifts are in rising order from the minute low on.
 abbrev pub Ordered : ℕ → List Shift → Type 0
@@ -151,21 +150,6 @@ worked_le ss t o =
 pub opened_fits : (ss : List Shift) (t : ℕ) → ordered 0 ss ≡ true → opened ss t < 2 ^ 32
 opened_fits ss t o = omega (arith, opened_le_total t ss, total_le 0 ss (in_order 0 ss o))
 
--- one shift of a walk through the shifts
-pub total_step :
-    (ss : List Shift) (i : ℕ) (d : Shift) → i < length ss → total (drop i ss) ≡ ((get_or ss i d).end - (get_or ss i d).begin) + total (drop (i + 1) ss)
-total_step ss i d h = ap total (drop_step ss i d h) ∙ total_cons (get_or ss i d) (drop (i + 1) ss)
-
-pub reached_step_here :
-    (ss : List Shift) (i r : ℕ) (d : Shift) → i < length ss → r ≤ (get_or ss i d).end - (get_or ss i d).begin
-    → reached (drop i ss) r ≡ (get_or ss i d).begin + r
-reached_step_here ss i r d h k = ap (λ l. reached l r) (drop_step ss i d h) ∙ reached_here (get_or ss i d) (drop (i + 1) ss) r k
-
-pub reached_step_past :
-    (ss : List Shift) (i r : ℕ) (d : Shift) → i < length ss → (get_or ss i d).end - (get_or ss i d).begin < r
-    → reached (drop i ss) r ≡ reached (drop (i + 1) ss) (r - ((get_or ss i d).end - (get_or ss i d).begin))
-reached_step_past ss i r d h k = ap (λ l. reached l r) (drop_step ss i d h) ∙ reached_past (get_or ss i d) (drop (i + 1) ss) r k
-
 -- each shift ends at or before the end of the week, and after it begins
 fits_from : (low : ℕ) (ss : List Shift) (i : ℕ) (d : Shift) → Ordered low ss → i < length ss → ((get_or ss i d).begin < (get_or ss i d).end) × ((get_or ss i d).end ≤ 10080)
 fits_from low [] i d o h = absurd (omega arith)
@@ -174,9 +158,6 @@ fits_from low (s ∷ ss) (suc i) d o h = fits_from (suc s.end) ss i d o.3 (omega
 
 pub shift_fits : (ss : List Shift) (i : ℕ) (d : Shift) → ordered 0 ss ≡ true → i < length ss → ((get_or ss i d).begin ≤ (get_or ss i d).end) × ((get_or ss i d).end ≤ 10080)
 shift_fits ss i d o h = let f = fits_from 0 ss i d (in_order 0 ss o) h in (omega arith, f.1)
-
-pub total_end : (ss : List Shift) (i : ℕ) → length ss ≤ i → total (drop i ss) ≡ 0
-total_end ss i h = ap total (drop_end ss i h)
 
 opened_ended : (low t : ℕ) (ss : List Shift) → Ordered low ss → 10080 ≤ t → opened ss t ≡ total ss
 opened_ended low t [] o h = refl
@@ -272,3 +253,12 @@ week_adjoint w = adjoint (shifts_of w) (week_ordered w) (omega (arith, w.opens, 
 
 pub week_opens : (w : Week) → Opens (shifts_of w)
 week_opens w = opens (shifts_of w) (week_ordered w) (omega (arith, w.opens, w.sum))
+
+-- weeks times the open minutes of one, and those of the last week
+pub week_counts :
+    (w : Week) (n t : ℕ) → n ≡ total (shifts_of w)
+    → (t / 10080 * n + opened (shifts_of w) (t % 10080) ≡ open_before (shifts_of w) t) × (open_before (shifts_of w) t ≤ t)
+week_counts w n t e = (
+  ap (λ z. t / 10080 * z + opened (shifts_of w) (t % 10080)) e ∙ worked_counts (shifts_of w) t (week_ordered w),
+  (week_opens w).at_most t,
+)

@@ -195,7 +195,7 @@ impl Week {
     }
 
     // How many minutes are open before `time`.
-    #[tactic(auto, using(crate::proofs::Weeks::opened_fits))]
+    #[tactic(auto, using(crate::proofs::Weeks::opened_fits, crate::proofs::Weeks::week_counts))]
     pub fn open_before(&self, time: u32) -> u32
         ensures { result ≡ open_before (shifts_of self.now) time }
     {
