@@ -17,25 +17,12 @@ use crate::week::Week;
 // The minutes of a week.
 const WEEK: u32 = 10_080;
 
-// Lets 1 to 16 shifts pass.
+// Lets 1 to 16 shifts pass. With none the first is at fault, with too many the seventeenth.
 fn count_in_range(count: usize) -> Result<(), SettingFault>
     ensures { option_map told (result_err result) ≡ count_off count }
 {
-    if count == 0 {
-        return Err(SettingFault::OffRange {
-            piece: Piece::Week,
-            position: 1,
-            value: 0,
-        });
-    }
-    if count > 16 {
-        return Err(SettingFault::OffRange {
-            piece: Piece::Week,
-            position: 17,
-            value: 17,
-        });
-    }
-    Ok(())
+    let position = if count == 0 { 1 } else { 17 };
+    on_range(Piece::Week, position, count.min(17) as u32, 1, 16)
 }
 
 // Lets a shift pass that begins and ends inside the week.
@@ -43,8 +30,7 @@ fn shift_in_week(position: u32, shift: Shift) -> Result<(), SettingFault>
     ensures { option_map told (result_err result) ≡ shift_past position shift }
 {
     on_range(Piece::Week, position, shift.begin, 0, WEEK)?;
-    on_range(Piece::Week, position, shift.end, 0, WEEK)?;
-    Ok(())
+    on_range(Piece::Week, position, shift.end, 0, WEEK)
 }
 
 // Lets shifts pass that all begin and end inside the week.
