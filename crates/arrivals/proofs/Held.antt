@@ -1,8 +1,10 @@
 -- The entries that were read so far, and what is left of the text.
-use Rattle.std.proofs.Common.{◌≡◌, ℕ, ◌+◌, ◌<◌, ◌≤◌, List, [], ◌∷◌, ◌++◌, length, sym, refl, ap, ◌∙◌, inr, append_assoc, arith, length-append}
+use Rattle.std.proofs.Common.{Result, Ok, Err, subst, ◌≡◌, ℕ, ◌+◌, ◌<◌, ◌≤◌, List, [], ◌∷◌, ◌++◌, length, sym, refl, ap, ◌∙◌, inr, append_assoc, arith, length-append}
 use Rattle.std.specs.List.{AllByRecursion}
 use Rattle.std.proofs.ByRecursion.{All-push}
 use Rattle.std.proofs.lemmas.List.{append-nil}
+use Rattle.std.specs.Result.{MatchResult, IsErrAnd}
+use Rattle.std.proofs.lemmas.Result.{err_from_is_err_and}
 use Rattle.forms.specs.Reading.{Says, SaysNothing, Reading, Unread}
 use Rattle.forms.specs.Stages.{Stage, StageFits}
 use Rattle.arrivals.specs.declared.lines.Entry.{Entry}
@@ -87,3 +89,14 @@ list_refused {text} {rest} {d} few r (Line n fault) b = (
   inr (record { stage = d; rest = rest; fits = r.0; is = r.1; bad = b.1 }),
 )
 list_refused few r NoMemory b = tt
+
+-- what stood before a `map_err`: the value that it kept, or the fault that it changed
+pub kept : {T E D : Type 0} (F : E → D → Type 0) (r : Result T E) (s : Result T D) (v : T) → MatchResult r (λ x. s ≡ Ok x) (λ e. IsErrAnd s (F e)) → s ≡ Ok v → r ≡ Ok v
+kept F (Ok x) s v m is = cc
+kept F (Err y) s v m is = let p = err_from_is_err_and s m in let q = p.1 in absurd (cc)
+
+pub changed :
+    {T E D : Type 0} (F : E → D → Type 0) (r : Result T E) (s : Result T D) (d : D) → MatchResult r (λ x. s ≡ Ok x) (λ e. IsErrAnd s (F e)) → s ≡ Err d
+    → (e : E) × (r ≡ Err e) × F e d
+changed F (Ok x) s d m is = absurd (cc)
+changed F (Err y) s d m is = let p = err_from_is_err_and s m in let q = p.1 in let z : p.0 ≡ d = cc in (y, refl, subst (F y) z p.2)

@@ -1,7 +1,8 @@
-ghost use Rattle.std.specs.Prelude.{◌≡◌, codes, Decides, MatchOption, MatchResult, ◌≢◌};
+ghost use Rattle.std.specs.Prelude.{◌≡◌, MatchResult, ◌≢◌};
 ghost use Rattle.forms.specs.Reading.{Says, SaysNothing};
 ghost use Rattle.forms.specs.Stages.{stage_said, StageFits};
 ghost use Rattle.arrivals.specs.Lines.{entry_word, stage_written, entry_written, EntryFits};
+ghost use Rattle.forms.specs.declared.cursor.FormFault.TheVariants.{UnknownWord};
 ghost use Rattle.arrivals.specs.declared.lines.EntryWord.{EntryWord as EntryWordType};
 
 use forms::cursor::{Cursor, FormFault};
@@ -23,22 +24,18 @@ enum EntryWord {
     Fresh,
 }
 
-// The entry word that `word` is, if it is one.
-fn entry_named(word: &[u8]) -> Option<EntryWord>
-    ensures { MatchOption result ((k : EntryWordType) → word.now ≢ entry_word k) (λ k. word.now ≡ entry_word k) }
-{
-    match word {
-        b"arrive" => Some(EntryWord::Arrive),
-        b"fresh" => Some(EntryWord::Fresh),
-        _ => None,
-    }
-}
+impl TryFrom<&[u8]> for EntryWord {
+    type Error = FormFault;
 
-// Whether `word` is the one that the first line begins with.
-fn is_stage(word: &[u8]) -> bool
-    ensures { Decides result (word.now ≡ codes "stage") }
-{
-    word == b"stage".as_slice()
+    ghost try_from_gives = { λ word r. MatchResult r (λ k. word.now ≡ entry_word k) (λ e. (e ≡ UnknownWord) × ((k : EntryWordType) → word.now ≢ entry_word k)) };
+
+    fn try_from(word: &[u8]) -> Result<EntryWord, FormFault> {
+        match word {
+            b"arrive" => Ok(EntryWord::Arrive),
+            b"fresh" => Ok(EntryWord::Fresh),
+            _ => Err(FormFault::UnknownWord),
+        }
+    }
 }
 
 // The stage of a line `(stage NAME CORE ..)`.
@@ -46,11 +43,7 @@ pub fn read_stage_line<'f>(line: &'f [u8]) -> Result<StageForm<'f>, FormFault>
     ensures { MatchResult result (λ s. Says StageFits stage_written line.now (stage_said s)) (λ _. SaysNothing StageFits stage_written line.now) }
 {
     let mut cursor = Cursor { rest: line };
-    cursor.expect('(')?;
-    let word = cursor.word()?;
-    if !is_stage(word) {
-        return Err(FormFault::UnknownWord);
-    }
+    cursor.opening(b"stage")?;
     cursor.stage()
 }
 
@@ -60,18 +53,16 @@ pub fn read_entry_line(line: &[u8]) -> Result<Entry, FormFault>
 {
     let mut cursor = Cursor { rest: line };
     cursor.expect('(')?;
-    let word = cursor.word()?;
-    match entry_named(word) {
-        Some(EntryWord::Arrive) => {
+    match EntryWord::try_from(cursor.word()?)? {
+        EntryWord::Arrive => {
             cursor.expect(' ')?;
-            let minute = cursor.last_one()?;
+            let [minute] = cursor.last::<1>()?;
             cursor.end()?;
             Ok(Entry::Arrive(minute))
         }
-        Some(EntryWord::Fresh) => {
+        EntryWord::Fresh => {
             cursor.finish()?;
             Ok(Entry::Fresh)
         }
-        None => Err(FormFault::UnknownWord),
     }
 }

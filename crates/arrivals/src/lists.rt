@@ -1,9 +1,10 @@
-ghost use Rattle.std.specs.Prelude.{◌≡◌, ◌<◌, ◌≤◌, length, MatchResult};
+ghost use Rattle.std.specs.Prelude.{◌≡◌, ◌<◌, ◌≤◌, length, MatchResult, Some};
 ghost use Rattle.std.specs.List.{AllByRecursion};
 ghost use Rattle.forms.specs.Reading.{left, Says, Reading, Unread};
 ghost use Rattle.forms.specs.Stages.{stage_said, StageFits};
 ghost use Rattle.arrivals.specs.Lines.{EntryFits};
 ghost use Rattle.arrivals.specs.Lists.{stage_ended, entry_ended, entries_written, list_written, ListFits, list_said, most_bytes, Shown, EntriesRefused, ListRefused, number};
+ghost use Rattle.arrivals.specs.Messages.{line_reason, list_fault_line};
 ghost use Rattle.arrivals.specs.declared.lists.LineFault.TheVariants.{Form};
 ghost use Rattle.arrivals.specs.declared.lists.ListFault.TheVariants.{NoMemory};
 
@@ -12,6 +13,7 @@ use crate::lines::Entry;
 use forms::cursor::{Cursor, FormFault};
 use forms::stages::StageForm;
 use std::alloc::{AllocFailed, Global};
+use std::fmt;
 
 const MOST_BYTES: usize = 16_384;
 
@@ -38,6 +40,19 @@ impl From<FormFault> for LineFault {
 
     fn from(fault: FormFault) -> LineFault {
         LineFault::Form(fault)
+    }
+}
+
+// Why a line is none of an arrival list, in words.
+impl fmt::Display for LineFault {
+    ghost output = { λ e. Some (line_reason e) };
+
+    fn fmt<W: fmt::Write>(&self, f: &mut fmt::Formatter<W>) -> fmt::Result {
+        match *self {
+            Self::NoStage => write!(f, "no stage"),
+            Self::Unended => write!(f, "no end of line"),
+            Self::Form(fault) => write!(f, "{fault}"),
+        }
     }
 }
 
@@ -72,6 +87,19 @@ impl ListFault {
     }
 }
 
+// The line that tells why a text is no arrival list.
+impl fmt::Display for ListFault {
+    ghost output = { λ e. Some (list_fault_line e) };
+
+    fn fmt<W: fmt::Write>(&self, f: &mut fmt::Formatter<W>) -> fmt::Result {
+        match *self {
+            Self::TooLong => write!(f, "refused 15: over 16384 bytes"),
+            Self::Line { line, fault } => write!(f, "line {line} refused 16: {fault}"),
+            Self::NoMemory => write!(f, "out of memory"),
+        }
+    }
+}
+
 // The stage of the line that is next, which is the first.
 fn stage_line<'f>(cursor: &mut Cursor<'f>) -> Result<StageForm<'f>, LineFault>
     ensures { MatchResult result (λ s. Reading StageFits stage_ended (left cursor.old) (left cursor.new) (stage_said s))
@@ -80,9 +108,7 @@ fn stage_line<'f>(cursor: &mut Cursor<'f>) -> Result<StageForm<'f>, LineFault>
     if cursor.rest.is_empty() {
         return Err(LineFault::NoStage);
     }
-    let Some(line) = cursor.line() else {
-        return Err(LineFault::Unended);
-    };
+    let line = cursor.line().ok_or(LineFault::Unended)?;
     Ok(lines::read_stage_line(line)?)
 }
 
@@ -92,9 +118,7 @@ fn entry_line(cursor: &mut Cursor<'_>) -> Result<Entry, LineFault>
     ensures { MatchResult result (λ d. Reading EntryFits entry_ended (left cursor.old) (left cursor.new) d)
         (λ e. Unread EntryFits entry_ended (left cursor.old) × Shown e (left cursor.old)) }
 {
-    let Some(line) = cursor.line() else {
-        return Err(LineFault::Unended);
-    };
+    let line = cursor.line().ok_or(LineFault::Unended)?;
     Ok(lines::read_entry_line(line)?)
 }
 
@@ -106,13 +130,8 @@ fn read_entries(heap: Global, text: &[u8]) -> Result<Vec<Entry>, ListFault>
     let mut cursor = Cursor { rest: text };
     let mut entries = Vec::new(heap);
     while !cursor.rest.is_empty() {
-        let entry = match entry_line(&mut cursor) {
-            Ok(entry) => entry,
-            Err(fault) => return Err(ListFault::Line {
-                line: entries.len() + 2,
-                fault,
-            }),
-        };
+        let line = entries.len() + 2;
+        let entry = entry_line(&mut cursor).map_err(|fault| ListFault::Line { line, fault })?;
         entries.push(entry)?;
     }
     Ok(entries)
@@ -127,10 +146,7 @@ pub fn read_list<'f>(heap: Global, text: &'f [u8]) -> Result<ArrivalList<'f>, Li
         return Err(ListFault::TooLong);
     }
     let mut cursor = Cursor { rest: text };
-    let stage = match stage_line(&mut cursor) {
-        Ok(stage) => stage,
-        Err(fault) => return Err(ListFault::Line { line: 1, fault }),
-    };
+    let stage = stage_line(&mut cursor).map_err(|fault| ListFault::Line { line: 1, fault })?;
     let entries = read_entries(heap, cursor.rest)?;
     Ok(ArrivalList { stage, entries })
 }

@@ -1,13 +1,13 @@
 -- The look-ups of a week: counted minute by minute, shift by shift, and back.
-use Rattle.std.proofs.Common.{◌≡◌, ℕ, zero, suc, ◌+◌, ◌-◌, ◌*◌, ◌/◌, ◌%◌, ◌<◌, ◌≤◌, min, Bool, true, false, cond, ◌&&◌, ◌||◌, ltb, leb, List, [], ◌∷◌, ◌++◌, length, get_or, take, drop, refl, ap, ◌∙◌, mul-le-mul_right, mod-lt, add-mul, mul-le-mul_left, one-mul, div-add-mod', arith}
+use Rattle.std.proofs.Common.{◌≡◌, ℕ, zero, suc, ◌+◌, ◌-◌, ◌*◌, ◌/◌, ◌%◌, ◌^◌, ◌<◌, ◌≤◌, min, Bool, true, false, cond, ◌&&◌, ◌||◌, ltb, leb, List, [], ◌∷◌, ◌++◌, length, get_or, take, refl, ap, ◌∙◌, mul-le-mul_right, mod-lt, add-mul, mul-le-mul_left, one-mul, div-add-mod', arith}
 use native.Mathlib.Decide.{dec_le}
 use Rattle.std.proofs.lemmas.Bool.{le-leb, lt-leb, leb-true, ltb-true, lt-ltb, le-ltb, and_parts, and_from, and_left, and_right, or_left}
+use Rattle.std.proofs.lemmas.List.Sums.{sum_by-cons}
 use Rattle.calendar.specs.Week.{ordered, open_at, open_before, opened, total, reached, time_by}
 use Rattle.calendar.specs.WeekLaw.{Adjoint, Opens}
 use Rattle.calendar.specs.WeekOf.{shifts_of}
 use Rattle.calendar.specs.declared.shifts.Shift.{Shift}
 use Rattle.calendar.specs.declared.week.Week.{Week}
-use Rattle.calendar.proofs.Refusing.{drop_step, drop_end}
 
 -- The shifts are in rising order from the minute low on.
 abbrev pub Ordered : ℕ → List Shift → Type 0
@@ -22,23 +22,30 @@ in_order low (s ∷ ss) e =
     let c = and_parts (leb s.end 10080) _ b.1 in
     (leb-true _ _ a.0, ltb-true _ _ b.0, leb-true _ _ c.0, in_order (suc s.end) ss c.1)
 
+-- one shift more
+opened_cons : (s : Shift) (ss : List Shift) (t : ℕ) → opened (s ∷ ss) t ≡ (min t s.end - s.begin) + opened ss t
+opened_cons s ss t = sum_by-cons (λ (s : Shift). min t s.end - s.begin) s ss
+
+total_cons : (s : Shift) (ss : List Shift) → total (s ∷ ss) ≡ (s.end - s.begin) + total ss
+total_cons s ss = sum_by-cons (λ (s : Shift). s.end - s.begin) s ss
+
 -- nothing is open before the first shift
 opened_none : (low t : ℕ) (ss : List Shift) → Ordered low ss → t ≤ low → opened ss t ≡ 0
 opened_none low t [] o h = refl
-opened_none low t (s ∷ ss) o h = omega (arith, opened_none (suc s.end) t ss o.3 (omega (arith, o.0, o.1)), o.0, o.1)
+opened_none low t (s ∷ ss) o h = omega (arith, opened_cons s ss t, opened_none (suc s.end) t ss o.3 (omega (arith, o.0, o.1)), o.0, o.1)
 
 opened_le_total : (t : ℕ) (ss : List Shift) → opened ss t ≤ total ss
 opened_le_total t [] = omega arith
-opened_le_total t (s ∷ ss) = omega (arith, opened_le_total t ss)
+opened_le_total t (s ∷ ss) = omega (arith, opened_cons s ss t, total_cons s ss, opened_le_total t ss)
 
 -- no more minutes are open than pass after low
 opened_le : (low t : ℕ) (ss : List Shift) → Ordered low ss → opened ss t ≤ t - low
 opened_le low t [] o = omega arith
-opened_le low t (s ∷ ss) o = omega (arith, opened_le (suc s.end) t ss o.3, o.0, o.1)
+opened_le low t (s ∷ ss) o = omega (arith, opened_cons s ss t, opened_le (suc s.end) t ss o.3, o.0, o.1)
 
 total_le : (low : ℕ) (ss : List Shift) → Ordered low ss → total ss ≤ 10080 - low
 total_le low [] o = omega arith
-total_le low (s ∷ ss) o = omega (arith, total_le (suc s.end) ss o.3, o.0, o.1, o.2)
+total_le low (s ∷ ss) o = omega (arith, total_cons s ss, total_le (suc s.end) ss o.3, o.0, o.1, o.2)
 
 -- what reached is at the first shift and past it
 reached_here : (s : Shift) (ss : List Shift) (r : ℕ) → r ≤ s.end - s.begin → reached (s ∷ ss) r ≡ s.begin + r
@@ -62,8 +69,8 @@ within_here low s ss r o h y =
       below = omega (arith, o.1, o.2);
       up = λ t u.
           elim (dec_le t (suc s.end))
-          [ yes a ↦ omega (arith, opened_none (suc s.end) t ss o.3 a, o.1) | no a ↦ omega (arith, o.1) ];
-      down = λ t u. omega (arith, o.1);
+          [ yes a ↦ omega (arith, opened_cons s ss t, opened_none (suc s.end) t ss o.3 a, o.1) | no a ↦ omega (arith, opened_cons s ss t, o.1) ];
+      down = λ t u. omega (arith, opened_cons s ss t, o.1);
     }
 
 within_past :
@@ -76,8 +83,8 @@ within_past low s ss r o y w =
       below = omega (arith, w.below);
       up = λ t u.
           elim (dec_le t (suc s.end))
-          [ yes a ↦ absurd (omega (arith, opened_none (suc s.end) t ss o.3 a, o.1)) | no a ↦ omega (arith, w.up t (omega arith)) ];
-      down = λ t u. omega (arith, w.down t (omega arith), w.above, o.1);
+          [ yes a ↦ absurd (omega (arith, opened_cons s ss t, opened_none (suc s.end) t ss o.3 a, o.1)) | no a ↦ omega (arith, opened_cons s ss t, w.up t (omega (arith, opened_cons s ss t))) ];
+      down = λ t u. omega (arith, opened_cons s ss t, w.down t (omega arith), w.above, o.1);
     }
 
 pub within : (low : ℕ) (ss : List Shift) (r : ℕ) → Ordered low ss → 1 ≤ r → r ≤ total ss → Within low ss r
@@ -85,7 +92,7 @@ within low [] r o h k = absurd (omega arith)
 within low (s ∷ ss) r o h k =
     elim (dec_le r (s.end - s.begin)) [
       | yes y ↦ within_here low s ss r o h y
-      | no n ↦ within_past low s ss r o (omega arith) (within (suc s.end) ss (r - (s.end - s.begin)) o.3 (omega arith) (omega arith))
+      | no n ↦ within_past low s ss r o (omega arith) (within (suc s.end) ss (r - (s.end - s.begin)) o.3 (omega arith) (omega (arith, total_cons s ss)))
     ]
 
 -- the open minutes before t: those of the whole weeks and of the last one
@@ -140,51 +147,28 @@ worked_le ss t o =
     let k : t / 10080 * total ss ≤ t / 10080 * 10080 = mul-le-mul_left (t / 10080) (omega (arith, total_le 0 ss o)) in
     omega (arith, opened_le 0 (t % 10080) ss o)
 
--- one shift of a walk through the shifts
-pub opened_step :
-    (ss : List Shift) (i t : ℕ) (d : Shift) → i < length ss
-    → opened (drop i ss) t ≡ (min t (get_or ss i d).end - (get_or ss i d).begin) + opened (drop (i + 1) ss) t
-opened_step ss i t d h = ap (λ l. opened l t) (drop_step ss i d h)
-
-pub total_step :
-    (ss : List Shift) (i : ℕ) (d : Shift) → i < length ss → total (drop i ss) ≡ ((get_or ss i d).end - (get_or ss i d).begin) + total (drop (i + 1) ss)
-total_step ss i d h = ap total (drop_step ss i d h)
-
-pub reached_step_here :
-    (ss : List Shift) (i r : ℕ) (d : Shift) → i < length ss → r ≤ (get_or ss i d).end - (get_or ss i d).begin
-    → reached (drop i ss) r ≡ (get_or ss i d).begin + r
-reached_step_here ss i r d h k = ap (λ l. reached l r) (drop_step ss i d h) ∙ reached_here (get_or ss i d) (drop (i + 1) ss) r k
-
-pub reached_step_past :
-    (ss : List Shift) (i r : ℕ) (d : Shift) → i < length ss → (get_or ss i d).end - (get_or ss i d).begin < r
-    → reached (drop i ss) r ≡ reached (drop (i + 1) ss) (r - ((get_or ss i d).end - (get_or ss i d).begin))
-reached_step_past ss i r d h k = ap (λ l. reached l r) (drop_step ss i d h) ∙ reached_past (get_or ss i d) (drop (i + 1) ss) r k
+pub opened_fits : (ss : List Shift) (t : ℕ) → ordered 0 ss ≡ true → opened ss t < 2 ^ 32
+opened_fits ss t o = omega (arith, opened_le_total t ss, total_le 0 ss (in_order 0 ss o))
 
 -- each shift ends at or before the end of the week, and after it begins
-pub shift_fits : (low : ℕ) (ss : List Shift) (i : ℕ) (d : Shift) → Ordered low ss → i < length ss → ((get_or ss i d).begin < (get_or ss i d).end) × ((get_or ss i d).end ≤ 10080)
-shift_fits low [] i d o h = absurd (omega arith)
-shift_fits low (s ∷ ss) zero d o h = (o.1, o.2)
-shift_fits low (s ∷ ss) (suc i) d o h = shift_fits (suc s.end) ss i d o.3 (omega arith)
+fits_from : (low : ℕ) (ss : List Shift) (i : ℕ) (d : Shift) → Ordered low ss → i < length ss → ((get_or ss i d).begin < (get_or ss i d).end) × ((get_or ss i d).end ≤ 10080)
+fits_from low [] i d o h = absurd (omega arith)
+fits_from low (s ∷ ss) zero d o h = (o.1, o.2)
+fits_from low (s ∷ ss) (suc i) d o h = fits_from (suc s.end) ss i d o.3 (omega arith)
 
-pub opened_fits : (ss : List Shift) (t : ℕ) → Ordered 0 ss → opened ss t ≤ 10080
-opened_fits ss t o = omega (arith, opened_le_total t ss, total_le 0 ss o)
-
-pub opened_end : (ss : List Shift) (i t : ℕ) → length ss ≤ i → opened (drop i ss) t ≡ 0
-opened_end ss i t h = ap (λ l. opened l t) (drop_end ss i h)
-
-pub total_end : (ss : List Shift) (i : ℕ) → length ss ≤ i → total (drop i ss) ≡ 0
-total_end ss i h = ap total (drop_end ss i h)
+pub shift_fits : (ss : List Shift) (i : ℕ) (d : Shift) → ordered 0 ss ≡ true → i < length ss → ((get_or ss i d).begin ≤ (get_or ss i d).end) × ((get_or ss i d).end ≤ 10080)
+shift_fits ss i d o h = let f = fits_from 0 ss i d (in_order 0 ss o) h in (omega arith, f.1)
 
 opened_ended : (low t : ℕ) (ss : List Shift) → Ordered low ss → 10080 ≤ t → opened ss t ≡ total ss
 opened_ended low t [] o h = refl
-opened_ended low t (s ∷ ss) o h = omega (arith, opened_ended (suc s.end) t ss o.3 h, o.2)
+opened_ended low t (s ∷ ss) o h = omega (arith, opened_cons s ss t, total_cons s ss, opened_ended (suc s.end) t ss o.3 h, o.2)
 
 pub opened_whole : (ss : List Shift) → Ordered 0 ss → opened ss 10080 ≡ total ss
 opened_whole ss o = opened_ended 0 10080 ss o (omega arith)
 
 pub total_some : (ss : List Shift) → Ordered 0 ss → 1 ≤ length ss → 1 ≤ total ss
 total_some [] o h = absurd (omega arith)
-total_some (s ∷ ss) o h = omega (arith, o.1)
+total_some (s ∷ ss) o h = omega (arith, total_cons s ss, o.1)
 
 pub table_holds : (ss cs rest : List Shift) → cs ≡ ss → take (length ss) (cs ++ rest) ≡ ss
 table_holds ss cs rest e = ap (λ l. take (length ss) (l ++ rest)) e ∙ whole ss
@@ -194,7 +178,7 @@ table_holds ss cs rest e = ap (λ l. take (length ss) (l ++ rest)) e ∙ whole s
     whole (s ∷ l) = ap (λ (m : List Shift). s ∷ m) (whole l)
 
 opened_next : (low : ℕ) (ss : List Shift) (r : ℕ) → Ordered low ss → opened ss (suc r) ≡ opened ss r + cond (open_at ss r) 1 0
-opened_next low [] r o = omega arith
+opened_next low [] r o = refl
 opened_next low (s ∷ ss) r o = go (dec_le s.begin r) (dec_le s.end r) (opened_next (suc s.end) ss r o.3)
   where
     here : Bool
@@ -207,14 +191,14 @@ opened_next low (s ∷ ss) r o = go (dec_le s.begin r) (dec_le s.end r) (opened_
         Dec (s.begin ≤ r) → Dec (s.end ≤ r) → opened ss (suc r) ≡ opened ss r + cond (open_at ss r) 1 0
         → opened (s ∷ ss) (suc r) ≡ opened (s ∷ ss) r + cond (open_at (s ∷ ss) r) 1 0
     go (yes b) (yes e) ih =
-        let n = adds (leb s.begin r && ltb r s.end) (and_right (leb s.begin r) _ (le-ltb r s.end e)) in omega arith
+        let n = adds (leb s.begin r && ltb r s.end) (and_right (leb s.begin r) _ (le-ltb r s.end e)) in omega (arith, opened_cons s ss r, opened_cons s ss (suc r))
     go (yes b) (no e) ih =
         let l : r < s.end = omega arith in
         let h : (leb s.begin r && ltb r s.end) ≡ true = and_from _ _ (le-leb s.begin r b) (lt-ltb r s.end l) in
         let n : ◌≡◌ {A = ℕ} (cond (open_at (s ∷ ss) r) 1 0) 1 = ap (λ x. cond (x || open_at ss r) 1 0) h in
-        omega (arith, opened_none (suc s.end) r ss o.3 (omega arith), opened_none (suc s.end) (suc r) ss o.3 (omega arith))
+        omega (arith, opened_cons s ss r, opened_cons s ss (suc r), opened_none (suc s.end) r ss o.3 (omega arith), opened_none (suc s.end) (suc r) ss o.3 (omega arith))
     go (no b) e ih =
-        let n = adds (leb s.begin r && ltb r s.end) (and_left _ _ (lt-leb s.begin r (omega arith))) in omega (arith, o.1)
+        let n = adds (leb s.begin r && ltb r s.end) (and_left _ _ (lt-leb s.begin r (omega arith))) in omega (arith, opened_cons s ss r, opened_cons s ss (suc r), o.1)
 
 worked_next : (ss : List Shift) (t : ℕ) → Ordered 0 ss → worked ss (suc t) ≡ worked ss t + cond (open_at ss (t % 10080)) 1 0
 worked_next ss t o = go (dec_le 10079 (t % 10080))
@@ -269,3 +253,12 @@ week_adjoint w = adjoint (shifts_of w) (week_ordered w) (omega (arith, w.opens, 
 
 pub week_opens : (w : Week) → Opens (shifts_of w)
 week_opens w = opens (shifts_of w) (week_ordered w) (omega (arith, w.opens, w.sum))
+
+-- weeks times the open minutes of one, and those of the last week
+pub week_counts :
+    (w : Week) (n t : ℕ) → n ≡ total (shifts_of w)
+    → (t / 10080 * n + opened (shifts_of w) (t % 10080) ≡ open_before (shifts_of w) t) × (open_before (shifts_of w) t ≤ t)
+week_counts w n t e = (
+  ap (λ z. t / 10080 * z + opened (shifts_of w) (t % 10080)) e ∙ worked_counts (shifts_of w) t (week_ordered w),
+  (week_opens w).at_most t,
+)

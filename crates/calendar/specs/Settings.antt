@@ -1,4 +1,4 @@
-use Rattle.std.specs.Prelude.{◌≡◌, ℕ, suc, Bool, cond, ◌||◌, List, [], ◌∷◌, Some, None, Ok, Err, codes, Option, Result, nat_lt}
+use Rattle.std.specs.Prelude.{◌≡◌, ℕ, suc, Bool, cond, ◌||◌, List, [], ◌∷◌, ◌++◌, Some, None, Ok, Err, codes, decimal, Option, Result, nat_lt}
 use Rattle.calendar.specs.declared.settings.Piece.{Piece}
 use Rattle.calendar.specs.declared.settings.Piece.TheVariants as pieces
 use Rattle.calendar.specs.declared.settings.SettingFault.{SettingFault}
@@ -22,6 +22,19 @@ pub record Told : Type 0 where
 abbrev pub told : SettingFault → Told
 told (OffRange piece position value) = record { number = 1; piece = piece; position = position; value = value }
 told (ShiftOrder position begin) = record { number = 2; piece = pieces.Week; position = position; value = begin }
+
+-- Why a setting is at fault, in words.
+abbrev pub setting_reason : SettingFault → List ℕ
+setting_reason (OffRange piece position value) = codes "off its range"
+setting_reason (ShiftOrder position begin) = codes "out of order"
+
+-- The words that tell which setting is at fault, and why.
+abbrev pub setting_line : SettingFault → List ℕ
+setting_line fault =
+    codes "setting "
+    ++ (decimal (told fault).position
+    ++ (codes " of the "
+    ++ (piece_word (told fault).piece ++ (codes " is " ++ (decimal (told fault).value ++ (codes ", " ++ setting_reason fault))))))
 
 -- A value is off the range from low to high.
 abbrev pub off : ℕ → ℕ → ℕ → Bool

@@ -1,4 +1,4 @@
-use Rattle.std.specs.Prelude.{ℕ, zero, suc, ◌+◌, ◌-◌, ◌*◌, ◌/◌, ◌%◌, min, Bool, true, false, cond, ◌&&◌, ◌||◌, List, [], ◌∷◌, nat_le, nat_lt}
+use Rattle.std.specs.Prelude.{ℕ, zero, suc, ◌+◌, ◌-◌, ◌*◌, ◌/◌, ◌%◌, min, Bool, true, false, cond, ◌&&◌, ◌||◌, List, [], ◌∷◌, sum_by, nat_le, nat_lt}
 use Rattle.calendar.specs.declared.shifts.Shift.{Shift}
 
 -- The shifts are in rising order from the minute low on, none empty, none touching the next, all inside the week.
@@ -18,12 +18,10 @@ open_before ss (suc t) = open_before ss t + cond (open_at ss (t % 10080)) 1 0
 
 -- The same within one week, shift by shift: the open minutes before its minute m, and those of the whole week.
 abbrev pub opened : List Shift → ℕ → ℕ
-opened [] m = 0
-opened (s ∷ ss) m = (min m s.end - s.begin) + opened ss m
+opened ss m = sum_by (λ s. min m s.end - s.begin) ss
 
 abbrev pub total : List Shift → ℕ
-total [] = 0
-total (s ∷ ss) = (s.end - s.begin) + total ss
+total ss = sum_by (λ s. s.end - s.begin) ss
 
 -- The minute of the week by which x open minutes have passed, for x from 1 to those of the whole week.
 abbrev pub reached : List Shift → ℕ → ℕ

@@ -1,4 +1,4 @@
-ghost use Rattle.std.specs.Prelude.{◌≡◌, MatchOption, ◌≢◌};
+ghost use Rattle.std.specs.Prelude.{◌≡◌, MatchResult, ◌≢◌};
 ghost use Rattle.calendar.specs.House.{house_name, house_shifts};
 ghost use Rattle.calendar.specs.WeekOf.{shifts_of};
 ghost use Rattle.calendar.specs.declared.house.HouseWeek.{HouseWeek as HouseWeekType};
@@ -12,18 +12,25 @@ pub enum HouseWeek {
     Early,
 }
 
-impl HouseWeek {
-    // The house week of that name.
-    pub fn named(name: &[u8]) -> Option<HouseWeek>
-        ensures { MatchOption result ((k : HouseWeekType) → name.now ≢ house_name k) (λ k. name.now ≡ house_name k) }
-    {
+// A name that is none of a house week.
+#[derive(Clone, Copy, PartialEq, Eq, Debug)]
+pub struct UnknownWeek;
+
+impl<'a> TryFrom<&'a [u8]> for HouseWeek {
+    type Error = UnknownWeek;
+
+    ghost try_from_gives = { λ name r. MatchResult r (λ k. name.now ≡ house_name k) (λ _. (k : HouseWeekType) → name.now ≢ house_name k) };
+
+    fn try_from(name: &'a [u8]) -> Result<HouseWeek, UnknownWeek> {
         match name {
-            b"all" => Some(HouseWeek::All),
-            b"early" => Some(HouseWeek::Early),
-            _ => None,
+            b"all" => Ok(HouseWeek::All),
+            b"early" => Ok(HouseWeek::Early),
+            _ => Err(UnknownWeek),
         }
     }
+}
 
+impl HouseWeek {
     // The week itself.
     pub fn week(self) -> Week
         ensures { shifts_of result ≡ house_shifts self }

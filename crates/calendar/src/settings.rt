@@ -1,6 +1,8 @@
-ghost use Rattle.std.specs.Prelude.{◌≡◌, if◌then◌else◌, Ok, Err};
+ghost use Rattle.std.specs.Prelude.{◌≡◌, if◌then◌else◌, Some, Ok, Err};
 ghost use Rattle.calendar.specs.declared.settings.SettingFault.TheVariants.{OffRange};
-ghost use Rattle.calendar.specs.Settings.{off, told, piece_word};
+ghost use Rattle.calendar.specs.Settings.{off, told, piece_word, setting_line};
+
+use std::fmt;
 
 // The pieces that a station is made of.
 #[derive(Clone, Copy, PartialEq, Eq, Debug)]
@@ -11,17 +13,16 @@ pub enum Piece {
     Week,
 }
 
-impl Piece {
-    // The word for the piece.
-    pub fn word(self) -> &'static str
-        ensures { result.now ≡ piece_word self }
-    {
-        match self {
+impl fmt::Display for Piece {
+    ghost output = { λ p. Some (piece_word p) };
+
+    fn fmt<W: fmt::Write>(&self, f: &mut fmt::Formatter<W>) -> fmt::Result {
+        f.write_str(match self {
             Piece::Machine => "machine",
             Piece::Oven => "oven",
             Piece::Move => "move",
             Piece::Week => "week",
-        }
+        })
     }
 }
 
@@ -80,6 +81,21 @@ impl SettingFault {
             SettingFault::OffRange { value, .. } => *value,
             SettingFault::ShiftOrder { begin, .. } => *begin,
         }
+    }
+}
+
+impl fmt::Display for SettingFault {
+    ghost output = { λ e. Some (setting_line e) };
+
+    fn fmt<W: fmt::Write>(&self, f: &mut fmt::Formatter<W>) -> fmt::Result {
+        let position = self.position();
+        let piece = self.piece();
+        let value = self.value();
+        let reason = match self {
+            SettingFault::OffRange { .. } => "off its range",
+            SettingFault::ShiftOrder { .. } => "out of order",
+        };
+        write!(f, "setting {position} of the {piece} is {value}, {reason}")
     }
 }
 

@@ -9,6 +9,7 @@ pub mod calls;
 // Every week that exists has them in rising order, none empty, none touching the next, all inside the week.
 #[derive(Clone, Copy)]
 pub struct Week {
+    // An array with a length beside it: a week is `Copy`, which an `ArrayVec` is not.
     table: [Shift; 16],
     count: usize,
     minutes: u32,

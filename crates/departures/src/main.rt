@@ -1,7 +1,6 @@
 // Tells for each part of an arrival list when it leaves the station, or why it is refused.
 #![tactic(auto)]
 
-use forms::stages::{CoreForm, StageForm};
 use jobs::whole::{Job, do_job};
 use std::io;
 use std::io::Read;
@@ -10,32 +9,9 @@ use std::process::ExitCode;
 // One byte more than an arrival list may have, so that a longer input is known to be too long.
 const MOST_READ: u64 = 16_385;
 
-// Tells what the station is made of.
-fn tell_station(rt: &HostRuntime, stage: StageForm<'_>) -> io::Result<()> {
-    let name = std::str::from_utf8(stage.name).unwrap_or("");
-    match stage.core {
-        CoreForm::Machine { places, minutes } => print!(rt;
-            "station {name}: machine of {places} places, {minutes} minutes"
-        )?,
-        CoreForm::Oven {
-            cycle,
-            places,
-            bake,
-        } => print!(rt; "station {name}: oven of {places} places, cycle {cycle}, bake {bake}")?,
-    }
-    if let Some(minutes) = stage.travel {
-        print!(rt; ", move {minutes}")?;
-    }
-    if let Some(week) = stage.week {
-        let week = std::str::from_utf8(week).unwrap_or("");
-        print!(rt; ", week {week}")?;
-    }
-    println!(rt; "")
-}
-
-// Tells the steps of the job.
+// Tells what the station is made of, and the steps of the job.
 fn tell_job(rt: &HostRuntime, job: &Job<'_>) -> io::Result<()> {
-    tell_station(rt, job.stage)?;
+    println!(rt; "{}", job.stage)?;
     for answer in job.answers.iter() {
         println!(rt; "{answer}")?;
     }

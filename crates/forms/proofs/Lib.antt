@@ -1,3 +1,4 @@
 pub mod Read
 pub mod Spelled
 pub mod Ended
+pub mod Listed

@@ -7,6 +7,16 @@ use Rattle.std.specs.List.{AllByRecursion}
 abbrev pub Ends : ℕ → ℕ → List ℕ → Type 0
 Ends lo hi t = 0 < length t → IsInRange lo hi (slice_index t 0) → ⊥
 
+-- each byte is from lo to hi
+abbrev pub Each : ℕ → ℕ → List ℕ → Type 0
+Each lo hi t = (i : ℕ) → i < length t → IsInRange lo hi (slice_index t i)
+
+-- the first n bytes of `text` are from lo to hi, and no more that follow
+pub record Front (lo hi : ℕ) (text : List ℕ) (n : ℕ) : Type 0 where
+  pub within : n ≤ length text
+  pub each : (i : ℕ) → i < n → IsInRange lo hi (slice_index text i)
+  pub stops : n < length text → IsInRange lo hi (slice_index text n) → ⊥
+
 -- a number of at most 7 digits
 abbrev pub Low : ℕ → Type 0
 Low n = n < 10 ^ 7

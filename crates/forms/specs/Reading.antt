@@ -1,7 +1,5 @@
 -- What a reader says of the value it read: W a is the text of a, and W a x that text before x.
 use Rattle.std.specs.Prelude.{◌≡◌, ℕ, List, Result, MatchResult, ◌≢◌}
-use Rattle.forms.specs.Forms.{Low}
-use Rattle.forms.specs.Stages.{two, three}
 use Rattle.forms.specs.declared.cursor.Cursor.{Cursor}
 use Rattle.forms.specs.declared.cursor.FormFault.{FormFault}
 
@@ -28,17 +26,3 @@ Unread {A} Fit W text = (b : A) (x : List ℕ) → Fit b → text ≢ W b x
 -- a reader that goes from c to d either read a value or found none
 abbrev pub Reads : {A : Type 0} → (A → Type 0) → (A → List ℕ → List ℕ) → Cursor → Cursor → Result A FormFault → Type 0
 Reads Fit W c d r = MatchResult r (Reading Fit W (left c) (left d)) (λ _. Unread Fit W (left c))
-
--- the same of the last two numbers of a form
-abbrev pub ReadsTwo : Cursor → Cursor → Result (ℕ × ℕ) FormFault → Type 0
-ReadsTwo c d r = MatchResult r
-    (λ p. Low p.0 × Low p.1 × (left c ≡ two p.0 p.1 (left d))
-    × ((m n : ℕ) (x : List ℕ) → Low m → Low n → left c ≡ two m n x → (p.0 ≡ m) × (p.1 ≡ n) × (left d ≡ x)))
-    (λ _. (m n : ℕ) (x : List ℕ) → Low m → Low n → left c ≢ two m n x)
-
--- and of the last three
-abbrev pub ReadsThree : Cursor → Cursor → Result (ℕ × ℕ × ℕ) FormFault → Type 0
-ReadsThree c d r = MatchResult r
-    (λ p. Low p.0 × Low p.1 × Low p.2 × (left c ≡ three p.0 p.1 p.2 (left d))
-    × ((l m n : ℕ) (x : List ℕ) → Low l → Low m → Low n → left c ≡ three l m n x → (p.0 ≡ l) × (p.1 ≡ m) × (p.2 ≡ n) × (left d ≡ x)))
-    (λ _. (l m n : ℕ) (x : List ℕ) → Low l → Low m → Low n → left c ≢ three l m n x)

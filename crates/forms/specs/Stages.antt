@@ -1,5 +1,6 @@
 -- The line of a stage. The text of each part is written before what follows it, x.
-use Rattle.std.specs.Prelude.{◌≡◌, ℕ, List, ◌++◌, Some, None, codes, decimal, Option}
+use Rattle.std.specs.Prelude.{◌≡◌, ℕ, List, [], ◌∷◌, ◌++◌, length, Some, None, codes, decimal, Option}
+use Rattle.std.specs.List.{flat_map, AllByRecursion}
 use Rattle.std.specs.Option.{option_map}
 use Rattle.forms.specs.declared.stages.CoreForm.{CoreForm}
 use Rattle.forms.specs.declared.stages.CoreForm.TheVariants.{Machine, Oven}
@@ -19,6 +20,20 @@ two a b x = decimal a ++ (codes " " ++ one b x)
 -- the last three numbers
 abbrev pub three : ℕ → ℕ → ℕ → List ℕ → List ℕ
 three a b c x = decimal a ++ (codes " " ++ two b c x)
+
+-- the last numbers, each but the first after a space
+abbrev pub last_text : List ℕ → List ℕ → List ℕ
+last_text [] x = codes ")" ++ x
+last_text (n ∷ []) x = one n x
+last_text (n ∷ (m ∷ ns)) x = decimal n ++ (codes " " ++ last_text (m ∷ ns) x)
+
+-- so many numbers, each of at most 7 digits
+abbrev pub LowEach : ℕ → List ℕ → Type 0
+LowEach count ns = (length ns ≡ count) × AllByRecursion Low ns
+
+-- numbers, each after a space
+abbrev pub spaced : List ℕ → List ℕ
+spaced ns = flat_map (λ n. 32 ∷ decimal n) ns
 
 -- the word that a core begins with
 abbrev pub core_word : CoreWord → List ℕ

@@ -1,9 +1,10 @@
-ghost use Rattle.std.specs.Prelude.{◌≡◌, ℕ, List, [], ◌∷◌, codes, MatchBool, MatchOption, MatchResult, ◌≢◌};
+ghost use Rattle.std.specs.Prelude.{◌≡◌, ℕ, List, [], ◌∷◌, ◌++◌, codes, MatchBool, MatchOption, MatchResult, ◌≢◌, Some};
 ghost use Rattle.forms.specs.Faults.{form_reason};
 ghost use Rattle.forms.specs.Reading.{left};
-ghost use Rattle.forms.specs.Forms.{Numbered, OnlyNumber, Numberless, Worded, OnlyWord, Wordless, Lined, OnlyLine, Lineless};
+ghost use Rattle.forms.specs.Forms.{Numbered, OnlyNumber, Numberless, Worded, OnlyWord, Word, Wordless, Lined, OnlyLine, Lineless};
 
 use crate::{lines, numbers, words};
+use std::fmt;
 
 // Why a text is not of its form.
 #[derive(Clone, Copy, PartialEq, Eq, Debug)]
@@ -15,17 +16,17 @@ pub enum FormFault {
     Layout,
 }
 
-impl FormFault {
-    // The reason in words.
-    pub fn reason(self) -> &'static str
-        ensures { result.now ≡ form_reason self }
-    {
-        match self {
+// The reason in words.
+impl fmt::Display for FormFault {
+    ghost output = { λ e. Some (form_reason e) };
+
+    fn fmt<W: fmt::Write>(&self, f: &mut fmt::Formatter<W>) -> fmt::Result {
+        f.write_str(match self {
             FormFault::NotANumber => "not a number",
             FormFault::NotAWord => "not a word",
             FormFault::UnknownWord => "unknown word",
             FormFault::Layout => "not of the form",
-        }
+        })
     }
 }
 
@@ -42,9 +43,7 @@ impl<'f> Cursor<'f> {
             (λ n. Numbered n (left self.new) (left self.old) × OnlyNumber n (left self.new) (left self.old))
             (λ e. (e ≡ FormFault.NotANumber) × Numberless (left self.old)) }
     {
-        let Some((n, rest)) = numbers::number(self.rest) else {
-            return Err(FormFault::NotANumber);
-        };
+        let (n, rest) = numbers::number(self.rest).ok_or(FormFault::NotANumber)?;
         self.rest = rest;
         Ok(n)
     }
@@ -55,9 +54,7 @@ impl<'f> Cursor<'f> {
             (λ w. Worded w.now (left self.new) (left self.old) × OnlyWord w.now (left self.new) (left self.old))
             (λ e. (e ≡ FormFault.NotAWord) × Wordless (left self.old)) }
     {
-        let Some((word, rest)) = words::word(self.rest) else {
-            return Err(FormFault::NotAWord);
-        };
+        let (word, rest) = words::word(self.rest).ok_or(FormFault::NotAWord)?;
         self.rest = rest;
         Ok(word)
     }
@@ -83,6 +80,18 @@ impl<'f> Cursor<'f> {
     {
         if !self.accept(c) {
             return Err(FormFault::Layout);
+        }
+        Ok(())
+    }
+
+    // Goes past the bracket and the word `name`, with which a form opens. A space follows.
+    pub fn opening(&mut self, name: &[u8]) -> Result<(), FormFault>
+        ensures { MatchResult result (λ _. left self.old ≡ codes "(" ++ (name.now ++ left self.new))
+            (λ _. Word name.now → (x : List ℕ) → left self.old ≢ codes "(" ++ (name.now ++ (codes " " ++ x))) }
+    {
+        self.expect('(')?;
+        if self.word()? != name {
+            return Err(FormFault::UnknownWord);
         }
         Ok(())
     }

@@ -6,13 +6,7 @@ fn line_end(text: &[u8]) -> Option<usize>
     ensures { MatchOption result ((k : ℕ) → k < length text.now → slice_index text.now k ≢ 10)
         (λ n. (n < length text.now) × (slice_index text.now n ≡ 10) × ((k : ℕ) → k < n → slice_index text.now k ≢ 10)) }
 {
-    for (i, b) in text.iter().enumerate() {
-        match char::from(*b) {
-            '\n' => return Some(i),
-            _ => {}
-        }
-    }
-    None
+    text.iter().position(|b| matches!(char::from(*b), '\n'))
 }
 
 // The line that `text` begins with, without the byte 10 that ends it, and what follows that.

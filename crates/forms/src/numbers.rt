@@ -1,27 +1,41 @@
-ghost use Rattle.std.specs.Option.{MatchOption};
-ghost use Rattle.forms.specs.Forms.{Numbered, OnlyNumber, Numberless};
+ghost use Rattle.std.specs.Prelude.{◌≡◌, ◌≤◌, length, MatchOption};
+ghost use Rattle.std.specs.Str.Parse.{digits_value};
+ghost use Rattle.forms.specs.Forms.{Each, Front, Numbered, OnlyNumber, Numberless};
+
+// How many digits `text` begins with.
+fn digits(text: &[u8]) -> usize
+    ensures { Front 48 57 text.now result }
+{
+    text.iter()
+        .position(|b| !matches!(char::from(*b), '0'..='9'))
+        .unwrap_or(text.len())
+}
+
+// The number that the digits write.
+fn value(digits: &[u8]) -> u32
+    requires few { length digits.now ≤ 7 }
+    requires digits { Each 48 57 digits.now }
+    ensures { result ≡ digits_value 10 digits.now }
+{
+    let mut n: u32 = 0;
+    for digit in digits {
+        n = n * 10 + u32::from(*digit - b'0');
+    }
+    n
+}
 
 // The number that `text` begins with, of 1 to 7 digits and with no needless 0 in front, and what follows it.
 pub fn number<'f>(text: &'f [u8]) -> Option<(u32, &'f [u8])>
     ensures { MatchOption result (Numberless text.now)
         (λ p. Numbered p.0 p.1.now text.now × OnlyNumber p.0 p.1.now text.now) }
 {
-    let mut n: u32 = 0;
-    let mut at: usize = 0;
-    while at < text.len() && at < 8 {
-        match char::from(text[at]) {
-            '0'..='9' => {
-                n = n * 10 + u32::from(text[at] - b'0');
-                at += 1;
-            }
-            _ => break,
-        }
-    }
-    if at == 0 || at > 7 {
+    let count = digits(text);
+    if count == 0 || count > 7 {
         return None;
     }
-    if at > 1 && text[0] == b'0' {
+    if count > 1 && text[0] == b'0' {
         return None;
     }
-    Some((n, &text[at..]))
+    let (digits, rest) = text.split_at(count);
+    Some((value(digits), rest))
 }

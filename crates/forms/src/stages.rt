@@ -1,11 +1,14 @@
-ghost use Rattle.std.specs.Prelude.{◌≡◌, ℕ, List, ◌++◌, codes, Decides, MatchBool, Option as OptionOf, MatchOption, MatchResult, ◌≢◌};
+ghost use Rattle.std.specs.Prelude.{Some, ◌≡◌, ℕ, List, ◌++◌, codes, Option as OptionOf, MatchResult, ◌≢◌};
 ghost use Rattle.std.specs.Option.{option_map};
-ghost use Rattle.forms.specs.Forms.{Low, Word};
-ghost use Rattle.forms.specs.Reading.{left, Says, SaysNothing, Reads, ReadsTwo, ReadsThree};
-ghost use Rattle.forms.specs.Stages.{core_word, one, core_text, LowCore, piece_text, travel_text, LowTravel, Moveless, week_text, WordWeek, stage_said, StageFits, stage_rest};
+ghost use Rattle.forms.specs.Forms.{Word};
+ghost use Rattle.forms.specs.Reading.{left, Says, SaysNothing, Reads};
+ghost use Rattle.forms.specs.Stages.{core_word, last_text, LowEach, core_text, LowCore, piece_text, travel_text, LowTravel, Moveless, week_text, WordWeek, stage_said, StageFits, stage_rest};
+ghost use Rattle.forms.specs.Shown.{text_of, core_line, stage_shown};
+ghost use Rattle.forms.specs.declared.cursor.FormFault.TheVariants.{UnknownWord};
 ghost use Rattle.forms.specs.declared.stages.CoreWord.{CoreWord as CoreWordType};
 
 use crate::cursor::{Cursor, FormFault};
+use std::fmt;
 
 // How a stage works.
 #[derive(Clone, Copy, PartialEq, Eq, Debug)]
@@ -27,6 +30,49 @@ pub struct StageForm<'f> {
     pub week: Option<&'f [u8]>,
 }
 
+// A word as text, or none where it is no text.
+fn text_of(word: &[u8]) -> &str
+    ensures { result.now ≡ text_of word.now }
+{
+    match str::from_utf8(word) {
+        Ok(text) => text,
+        Err(_) => "",
+    }
+}
+
+impl fmt::Display for CoreForm {
+    ghost output = { λ core. Some (core_line core) };
+
+    fn fmt<W: fmt::Write>(&self, f: &mut fmt::Formatter<W>) -> fmt::Result {
+        match *self {
+            CoreForm::Machine { places, minutes } => {
+                write!(f, "machine of {places} places, {minutes} minutes")
+            }
+            CoreForm::Oven {
+                cycle,
+                places,
+                bake,
+            } => write!(f, "oven of {places} places, cycle {cycle}, bake {bake}"),
+        }
+    }
+}
+
+// What the station is made of.
+impl fmt::Display for StageForm<'_> {
+    ghost output = { λ stage. Some (stage_shown stage) };
+
+    fn fmt<W: fmt::Write>(&self, f: &mut fmt::Formatter<W>) -> fmt::Result {
+        write!(f, "station {}: {}", text_of(self.name), self.core)?;
+        if let Some(minutes) = self.travel {
+            write!(f, ", move {minutes}")?;
+        }
+        if let Some(week) = self.week {
+            write!(f, ", week {}", text_of(week))?;
+        }
+        Ok(())
+    }
+}
+
 // The word that a core begins with.
 #[derive(Clone, Copy)]
 enum CoreWord {
@@ -34,72 +80,47 @@ enum CoreWord {
     Oven,
 }
 
-// The core word that `word` is, if it is one.
-fn core_named(word: &[u8]) -> Option<CoreWord>
-    ensures { MatchOption result ((k : CoreWordType) → word.now ≢ core_word k) (λ k. word.now ≡ core_word k) }
-{
-    match word {
-        b"machine" => Some(CoreWord::Machine),
-        b"oven" => Some(CoreWord::Oven),
-        _ => None,
-    }
-}
+impl TryFrom<&[u8]> for CoreWord {
+    type Error = FormFault;
 
-// Whether `word` is `name`.
-fn same_word(word: &[u8], name: &[u8]) -> bool
-    ensures { Decides result (word.now ≡ name.now) }
-{
-    word == name
+    ghost try_from_gives = { λ word r. MatchResult r (λ k. word.now ≡ core_word k) (λ e. (e ≡ UnknownWord) × ((k : CoreWordType) → word.now ≢ core_word k)) };
+
+    fn try_from(word: &[u8]) -> Result<CoreWord, FormFault> {
+        match word {
+            b"machine" => Ok(CoreWord::Machine),
+            b"oven" => Ok(CoreWord::Oven),
+            _ => Err(FormFault::UnknownWord),
+        }
+    }
 }
 
 impl<'f> Cursor<'f> {
-    // Goes past a space, a bracket, the word `name` and a space, if they are next, and says whether they were.
-    fn piece(&mut self, name: &[u8]) -> bool
+    // What follows a space, the opening of the form `name` and a space.
+    #[tactic(auto, using(std::proofs::lemmas::List::append_cancel_left))]
+    fn piece(mut self, name: &[u8]) -> Result<Cursor<'f>, FormFault>
         requires { Word name.now }
-        ensures { MatchBool result (left self.old ≡ piece_text name.now (left self.new))
-            ((left self.new ≡ left self.old) × ((x : List ℕ) → left self.old ≢ piece_text name.now x)) }
+        ensures { MatchResult result (λ after. left self.entry ≡ piece_text name.now (left after))
+            (λ _. (x : List ℕ) → left self.entry ≢ piece_text name.now x) }
     {
-        let mut ahead = *self;
-        if !ahead.accept(' ') || !ahead.accept('(') {
-            return false;
-        }
-        let Ok(word) = ahead.word() else {
-            return false;
-        };
-        if !same_word(word, name) || !ahead.accept(' ') {
-            return false;
-        }
-        *self = ahead;
-        true
+        self.expect(' ')?;
+        self.opening(name)?;
+        self.expect(' ')?;
+        Ok(self)
     }
 
-    // The last number of a form, and its bracket.
-    pub fn last_one(&mut self) -> Result<u32, FormFault>
-        ensures { Reads Low one self.old self.new result }
+    // The last N numbers of a form, each but the first after a space, and its bracket.
+    pub fn last<const N: usize>(&mut self) -> Result<[u32; N], FormFault>
+        ensures { Reads (LowEach N) last_text self.old self.new result }
     {
-        let n = self.number()?;
+        let mut numbers = [0; N];
+        for (at, number) in numbers.iter_mut().enumerate() {
+            if at > 0 {
+                self.expect(' ')?;
+            }
+            *number = self.number()?;
+        }
         self.expect(')')?;
-        Ok(n)
-    }
-
-    // The last two.
-    pub fn last_two(&mut self) -> Result<(u32, u32), FormFault>
-        ensures { ReadsTwo self.old self.new result }
-    {
-        let first = self.number()?;
-        self.expect(' ')?;
-        let last = self.last_one()?;
-        Ok((first, last))
-    }
-
-    // The last three.
-    pub fn last_three(&mut self) -> Result<(u32, u32, u32), FormFault>
-        ensures { ReadsThree self.old self.new result }
-    {
-        let first = self.number()?;
-        self.expect(' ')?;
-        let (second, last) = self.last_two()?;
-        Ok((first, second, last))
+        Ok(numbers)
     }
 
     // The core of a stage, in its brackets.
@@ -107,18 +128,15 @@ impl<'f> Cursor<'f> {
         ensures { Reads LowCore core_text self.old self.new result }
     {
         self.expect('(')?;
-        let word = self.word()?;
-        let Some(kind) = core_named(word) else {
-            return Err(FormFault::UnknownWord);
-        };
+        let word = CoreWord::try_from(self.word()?)?;
         self.expect(' ')?;
-        match kind {
+        match word {
             CoreWord::Machine => {
-                let (places, minutes) = self.last_two()?;
+                let [places, minutes] = self.last::<2>()?;
                 Ok(CoreForm::Machine { places, minutes })
             }
             CoreWord::Oven => {
-                let (cycle, places, bake) = self.last_three()?;
+                let [cycle, places, bake] = self.last::<3>()?;
                 Ok(CoreForm::Oven {
                     cycle,
                     places,
@@ -135,10 +153,11 @@ impl<'f> Cursor<'f> {
             × ((u : OptionOf ℕ) (x : List ℕ) → LowTravel u → Moveless x → left self.old ≡ travel_text u x → (t ≡ u) × (left self.new ≡ x)))
             (λ _. (u : OptionOf ℕ) (x : List ℕ) → LowTravel u → Moveless x → left self.old ≢ travel_text u x) }
     {
-        if !self.piece(b"move") {
+        let Ok(after) = self.piece(b"move") else {
             return Ok(None);
-        }
-        let minutes = self.last_one()?;
+        };
+        *self = after;
+        let [minutes] = self.last::<1>()?;
         Ok(Some(minutes))
     }
 
@@ -149,9 +168,10 @@ impl<'f> Cursor<'f> {
             × ((u : OptionOf (List ℕ)) (x : List ℕ) → WordWeek u → left self.old ≡ week_text u (codes ")" ++ x) → (option_map (λ x. x.now) w ≡ u) × (left self.new ≡ codes ")" ++ x)))
             (λ _. (u : OptionOf (List ℕ)) (x : List ℕ) → WordWeek u → left self.old ≡ week_text u (codes ")" ++ x) → ⊥) }
     {
-        if !self.piece(b"week") {
+        let Ok(after) = self.piece(b"week") else {
             return Ok(None);
-        }
+        };
+        *self = after;
         let name = self.word()?;
         self.expect(')')?;
         Ok(Some(name))

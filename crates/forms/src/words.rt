@@ -1,20 +1,13 @@
-ghost use Rattle.std.specs.Prelude.{ℕ, ◌<◌, ◌≤◌, length, MatchOption, slice_index};
-ghost use Rattle.std.specs.Int.{IsInRange};
-ghost use Rattle.forms.specs.Forms.{Worded, OnlyWord, Wordless};
+ghost use Rattle.std.specs.Option.{MatchOption};
+ghost use Rattle.forms.specs.Forms.{Front, Worded, OnlyWord, Wordless};
 
 // How many small letters `text` begins with.
 fn letters(text: &[u8]) -> usize
-    ensures within { result ≤ length text.now }
-    ensures letters { (i : ℕ) → i < result → IsInRange 97 122 (slice_index text.now i) }
-    ensures stops { result < length text.now → IsInRange 97 122 (slice_index text.now result) → ⊥ }
+    ensures { Front 97 122 text.now result }
 {
-    for (i, b) in text.iter().enumerate() {
-        match char::from(*b) {
-            'a'..='z' => {}
-            _ => return i,
-        }
-    }
-    text.len()
+    text.iter()
+        .position(|b| !matches!(char::from(*b), 'a'..='z'))
+        .unwrap_or(text.len())
 }
 
 // The word that `text` begins with, of 1 to 12 small letters, and what follows it.

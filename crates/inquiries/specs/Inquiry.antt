@@ -1,12 +1,15 @@
 -- The three lines of an inquiry. The text of each is written before what follows it, x.
-use Rattle.std.specs.Prelude.{◌≡◌, ℕ, zero, suc, ◌<◌, ◌≤◌, List, [], ◌∷◌, ◌++◌, length, take, codes, decimal, ◌≢◌}
-use Rattle.std.specs.List.{flat_map, AllByRecursion}
+use Rattle.std.specs.Prelude.{◌≡◌, ℕ, zero, suc, ◌<◌, ◌≤◌, List, [], ◌++◌, length, take, codes, decimal, ◌≢◌}
+use Rattle.std.specs.List.{AllByRecursion}
 use Rattle.forms.specs.Forms.{Low}
 use Rattle.forms.specs.Reading.{Unread}
+use Rattle.forms.specs.Stages.{spaced}
+use Rattle.forms.specs.Faults.{form_reason}
 use Rattle.inquiries.specs.Names.{control_name, AnyName}
 use Rattle.inquiries.specs.declared.names.ControlName.{ControlName}
 use Rattle.inquiries.specs.declared.counts.Counts.{Counts}
 use Rattle.inquiries.specs.declared.reading.Inquiry.{Inquiry}
+use Rattle.inquiries.specs.declared.reading.InquiryFault.{InquiryFault}
 
 -- the line of the control
 abbrev pub control_text : ControlName → List ℕ → List ℕ
@@ -15,10 +18,6 @@ control_text k x = codes "(control " ++ (control_name k ++ (codes ")\n" ++ x))
 -- the line of the number of stages
 abbrev pub stages_text : ℕ → List ℕ → List ℕ
 stages_text n x = codes "(stages " ++ (decimal n ++ (codes ")\n" ++ x))
-
--- numbers, each after a space
-abbrev pub spaced : List ℕ → List ℕ
-spaced ns = flat_map (λ n. 32 ∷ decimal n) ns
 
 -- the line of the counts
 abbrev pub cards_text : List ℕ → List ℕ → List ℕ
@@ -56,3 +55,7 @@ Stopped (suc (suc (suc zero))) text =
 Stopped (suc (suc (suc (suc zero)))) text =
     (k : ControlName) × ((n : ℕ) × ((ns : List ℕ) × ((x : List ℕ) × ((text ≡ control_text k (stages_text n (cards_text ns x))) × (x ≢ [])))))
 Stopped (suc (suc (suc (suc (suc n))))) text = ⊥
+
+-- the line that tells why a text is no inquiry
+abbrev pub inquiry_fault_line : InquiryFault → List ℕ
+inquiry_fault_line e = codes "line " ++ (decimal e.line ++ (codes " refused 16: " ++ form_reason e.fault))

@@ -1,12 +1,14 @@
-ghost use Rattle.std.specs.Prelude.{◌≡◌, ℕ, List, [], ◌∷◌, ◌++◌, Ok, Err, codes, Decides, MatchResult, ◌≢◌};
-ghost use Rattle.forms.specs.Forms.{Low, Word};
+ghost use Rattle.std.specs.Prelude.{◌≡◌, ℕ, List, ◌∷◌, ◌++◌, Ok, Err, Some, codes, MatchResult, ◌≢◌};
+ghost use Rattle.forms.specs.Forms.{Low};
 ghost use Rattle.forms.specs.Reading.{left, Says, SaysNothing, Reads, Reading, Unread};
+ghost use Rattle.forms.specs.Stages.{spaced};
 ghost use Rattle.inquiries.specs.Names.{AnyName};
-ghost use Rattle.inquiries.specs.Inquiry.{control_text, stages_text, spaced, cards_text, CountsFit, counts_of, InquiryFits, inquiry_written, inquiry_said, Stopped};
+ghost use Rattle.inquiries.specs.Inquiry.{control_text, stages_text, cards_text, CountsFit, counts_of, InquiryFits, inquiry_written, inquiry_said, Stopped, inquiry_fault_line};
 
 use crate::counts::Counts;
 use crate::names::ControlName;
 use forms::cursor::{Cursor, FormFault};
+use std::fmt;
 
 // A control, how many stages the line has, and the counts.
 #[derive(Clone, Copy)]
@@ -23,24 +25,12 @@ pub struct InquiryFault {
     pub fault: FormFault,
 }
 
-fn same_word(word: &[u8], name: &[u8]) -> bool
-    ensures { Decides result (word.now ≡ name.now) }
-{
-    word == name
-}
+impl fmt::Display for InquiryFault {
+    ghost output = { λ e. Some (inquiry_fault_line e) };
 
-// Goes past the bracket and the word that a form begins with. A space follows.
-fn head(cursor: &mut Cursor<'_>, name: &[u8]) -> Result<(), FormFault>
-    requires { Word name.now }
-    ensures { MatchResult result (λ _. left cursor.old ≡ 40 ∷ (name.now ++ left cursor.new))
-        (λ _. (x : List ℕ) → left cursor.old ≢ 40 ∷ (name.now ++ (32 ∷ x))) }
-{
-    cursor.expect('(')?;
-    let word = cursor.word()?;
-    if !same_word(word, name) {
-        return Err(FormFault::UnknownWord);
+    fn fmt<W: fmt::Write>(&self, f: &mut fmt::Formatter<W>) -> fmt::Result {
+        write!(f, "line {} refused 16: {}", self.line, self.fault)
     }
-    Ok(())
 }
 
 // Goes past the last bracket of a line and the byte that ends it.
@@ -57,21 +47,18 @@ fn line_end(cursor: &mut Cursor<'_>) -> Result<(), FormFault>
 fn control_line(cursor: &mut Cursor<'_>) -> Result<ControlName, FormFault>
     ensures { Reads AnyName control_text cursor.old cursor.new result }
 {
-    head(cursor, b"control")?;
+    cursor.opening(b"control")?;
     cursor.expect(' ')?;
     let word = cursor.word()?;
     line_end(cursor)?;
-    match ControlName::named(word) {
-        Some(name) => Ok(name),
-        None => Err(FormFault::UnknownWord),
-    }
+    ControlName::try_from(word)
 }
 
 // The number of a line `(stages NUMBER)`.
 fn stages_line(cursor: &mut Cursor<'_>) -> Result<u32, FormFault>
     ensures { Reads Low stages_text cursor.old cursor.new result }
 {
-    head(cursor, b"stages")?;
+    cursor.opening(b"stages")?;
     cursor.expect(' ')?;
     let stages = cursor.number()?;
     line_end(cursor)?;
@@ -86,11 +73,11 @@ fn spaced_counts(cursor: &mut Cursor<'_>) -> Result<Counts, FormFault>
 {
     let mut values = [0; 16];
     let mut count = 0;
-    while cursor.accept(' ') {
-        if count == 16 {
-            return Err(FormFault::Layout);
+    for value in &mut values {
+        if !cursor.accept(' ') {
+            break;
         }
-        values[count] = cursor.number()?;
+        *value = cursor.number()?;
         count += 1;
     }
     if count == 0 {
@@ -103,7 +90,7 @@ fn spaced_counts(cursor: &mut Cursor<'_>) -> Result<Counts, FormFault>
 fn cards_line(cursor: &mut Cursor<'_>) -> Result<Counts, FormFault>
     ensures { MatchResult result (λ c. Reading CountsFit cards_text (left cursor.old) (left cursor.new) (counts_of c)) (λ _. Unread CountsFit cards_text (left cursor.old)) }
 {
-    head(cursor, b"cards")?;
+    cursor.opening(b"cards")?;
     let counts = spaced_counts(cursor)?;
     line_end(cursor)?;
     Ok(counts)
@@ -113,10 +100,7 @@ fn cards_line(cursor: &mut Cursor<'_>) -> Result<Counts, FormFault>
 fn at_line<T: Drop>(line: u32, read: Result<T, FormFault>) -> Result<T, InquiryFault>
     ensures { MatchResult result (λ v. read ≡ Ok v) (λ e. (e.line ≡ line) × (read ≡ Err e.fault)) }
 {
-    match read {
-        Ok(value) => Ok(value),
-        Err(fault) => Err(InquiryFault { line, fault }),
-    }
+    read.map_err(|fault| InquiryFault { line, fault })
 }
 
 // The inquiry that `text` is, line by line.

@@ -8,8 +8,9 @@ use Rattle.calendar.specs.declared.settings.Piece.TheVariants as pieces
 use Rattle.calendar.specs.declared.shifts.Shift.{Shift}
 use Rattle.forms.specs.declared.stages.CoreForm.{CoreForm}
 use Rattle.forms.specs.declared.stages.CoreForm.TheVariants.{Machine, Oven}
-use Rattle.stations.specs.Pieces.{machine_settings, oven_settings, move_settings}
-use Rattle.stations.specs.Rule.{Meaning}
+use Rattle.stations.specs.Layer.{layered}
+use Rattle.stations.specs.Pieces.{machine_settings, oven_settings, move_settings, moving, in_shifts}
+use Rattle.stations.specs.Rule.{Meaning, freshened}
 use Rattle.stations.specs.Serving.{serving, machine, oven}
 use Rattle.jobs.specs.declared.making.StageFault.{StageFault}
 use Rattle.jobs.specs.declared.making.StageFault.TheVariants.{UnknownWeek, Setting}
@@ -40,6 +41,14 @@ Weekly (Some name) ss = (k : HouseWeek) × ((name ≡ house_name k) × (ss ≡ h
 abbrev pub Unnamed : Option (List ℕ) → Type 0
 Unnamed None = ⊥
 Unnamed (Some name) = (k : HouseWeek) → name ≢ house_name k
+
+-- The settings are lawful, and the station means a fresh move over a week that the stage names over its core.
+abbrev pub Made : CoreForm → Option ℕ → Option (List ℕ) → Meaning → Type 0
+Made core travel week m =
+    (make_refusal core travel ≡ None)
+    × ((ss : List Shift)
+    × (Weekly week ss
+    × (m ≡ freshened (layered (moving (travel_minutes travel)) None (layered (in_shifts ss) None (core_meaning core))))))
 
 -- Refusal 16 is an unknown word; a setting's fault has the setting's number.
 abbrev pub stage_number : StageFault → ℕ

@@ -1,21 +1,16 @@
-ghost use Rattle.std.specs.Prelude.{◌≡◌, List, None, Ok, Err, MatchResult};
+ghost use Rattle.std.specs.Prelude.{◌≡◌, MatchResult};
 ghost use Rattle.std.specs.Option.{option_map};
 ghost use Rattle.calendar.specs.Settings.{Makes};
 ghost use Rattle.calendar.specs.WeekOf.{shifts_of};
-ghost use Rattle.calendar.specs.declared.shifts.Shift.{Shift as ShiftType};
-ghost use Rattle.stations.specs.Cores.{core_pace};
-ghost use Rattle.stations.specs.Layer.{layered};
-ghost use Rattle.stations.specs.Pieces.{moving, weekly, in_shifts};
-ghost use Rattle.stations.specs.Rule.{freshened};
-ghost use Rattle.stations.specs.Serving.{serving};
-ghost use Rattle.jobs.specs.Make.{core_refusal, core_meaning, travel_minutes, make_refusal, Weekly, Unnamed, MakeRefused, stage_number};
+ghost use Rattle.jobs.specs.Make.{core_refusal, core_meaning, Weekly, Unnamed, Made, MakeRefused, stage_number};
 ghost use Rattle.jobs.specs.declared.making.StageFault.TheVariants.{UnknownWeek, Setting};
 
-use calendar::house::HouseWeek;
+use calendar::house::{HouseWeek, UnknownWeek as NoHouseWeek};
 use calendar::settings::SettingFault;
 use calendar::week::Week;
 use forms::stages::{CoreForm, StageForm};
 use stations::cores::Core;
+use stations::loading::Station;
 use stations::moves::Way;
 use stations::piles::{Pile, piled};
 
@@ -36,6 +31,14 @@ impl From<SettingFault> for StageFault {
     }
 }
 
+impl From<NoHouseWeek> for StageFault {
+    ghost from_gives = { λ _ r. r ≡ UnknownWeek };
+
+    fn from(_none: NoHouseWeek) -> StageFault {
+        StageFault::UnknownWeek
+    }
+}
+
 impl StageFault {
     // The number of the refusal.
     pub fn number(&self) -> u32
@@ -49,21 +52,18 @@ impl StageFault {
 }
 
 // The week of that name. A stage that names none is always open.
-fn week_named(name: Option<&[u8]>) -> Result<Week, StageFault>
-    ensures { MatchResult result (λ w. Weekly (option_map (λ x. x.now) name.entry) (shifts_of w)) (λ e. (e ≡ UnknownWeek) × Unnamed (option_map (λ x. x.now) name.entry)) }
+fn week_named(name: Option<&[u8]>) -> Result<Week, NoHouseWeek>
+    ensures { let named = option_map (λ x. x.now) name.entry in MatchResult result (λ w. Weekly named (shifts_of w)) (λ _. Unnamed named) }
 {
     match name {
         None => Ok(Week::all()),
-        Some(word) => match HouseWeek::named(word) {
-            Some(house) => Ok(house.week()),
-            None => Err(StageFault::UnknownWeek),
-        },
+        Some(word) => Ok(HouseWeek::try_from(word)?.week()),
     }
 }
 
 // The fresh core that a stage's line describes.
 fn core_of(form: CoreForm) -> Result<Core, SettingFault>
-    ensures { Makes (core_refusal form) (λ c. serving c.places.count (core_pace c.work) c.places.free c.last ≡ core_meaning form) result }
+    ensures { Makes (core_refusal form) (λ c. ⟦<Core as Station>⟧.meaning c ≡ core_meaning form) result }
 {
     match form {
         CoreForm::Machine { places, minutes } => Core::machine(places, minutes),
@@ -78,7 +78,7 @@ fn core_of(form: CoreForm) -> Result<Core, SettingFault>
 // The fresh station that a stage's line describes, or the first fault: the name of the week is tried first, then the settings
 // as they stand.
 pub fn make_station(form: StageForm<'_>) -> Result<Pile, StageFault>
-    ensures { elim result [ Ok p ↦ (make_refusal form.entry.core form.entry.travel ≡ None) × ((ss : List ShiftType) × (Weekly (option_map (λ x. x.now) form.entry.week) ss × (layered (moving p.by.minutes) p.last (layered (weekly p.below.by) p.below.last (serving p.below.below.places.count (core_pace p.below.below.work) p.below.below.places.free p.below.below.last)) ≡ freshened (layered (moving (travel_minutes form.entry.travel)) None (layered (in_shifts ss) None (core_meaning form.entry.core)))))) | Err e ↦ MakeRefused form.entry.core form.entry.travel (option_map (λ x. x.now) form.entry.week) e ] }
+    ensures { let week = option_map (λ x. x.now) form.entry.week in MatchResult result (λ p. Made form.entry.core form.entry.travel week (⟦<Pile as Station>⟧.meaning p)) (MakeRefused form.entry.core form.entry.travel week) }
 {
     let week = week_named(form.week)?;
     let core = core_of(form.core)?;

@@ -1,5 +1,5 @@
 -- Rows that are joined, cut and found at run time.
-use Rattle.std.specs.Prelude.{◌≡◌, ℕ, zero, suc, ◌+◌, ◌-◌, ◌<◌, ◌≤◌, min, ◌⊎◌, List, [], ◌∷◌, ◌++◌, map, length, take, Ok, Err, Result, slice_index_or, slice_set, refl}
+use Rattle.std.specs.Prelude.{◌≡◌, ℕ, zero, suc, ◌+◌, ◌-◌, ◌<◌, ◌≤◌, min, ◌⊎◌, List, [], ◌∷◌, ◌++◌, map, length, take, Ok, Err, Result, MatchResult, IsErrAnd, slice_index_or, slice_set, refl}
 use Rattle.std.proofs.Common.{sym, ap, ap₂, ◌∙◌, subst, inl, inr, ⊎_elim, arith, add-one, length-append}
 use Rattle.std.proofs.lemmas.List.{take-map, map-append, length-take, length-map}
 use Rattle.stations.specs.Rule.{Meaning, Lawful, freshened}
@@ -91,6 +91,19 @@ joined_back_fault ms ns ns' n i a (NoStation j) e h k l =
 joined_back_fault ms ns ns' n i a (Refused j f) e h k l =
     (refl, joined_back ms ns ns' n.0 i.0 a (Err f) e h k l.1)
 
+-- a load in the second row, its fault under the number in the whole row
+pub joined_second :
+    (ms ns ns' : List Meaning) (n i : StageNo) (a : ℕ) (r q : Result ℕ RowFault) → n.0 ≡ length ms + i.0 → 1 ≤ i.0 → n.0 ≤ 64
+    → RowLoaded ns i a r ns' → MatchResult r (λ d. q ≡ Ok d) (λ f. IsErrAnd q (λ e. e ≡ numbered n f))
+    → RowLoaded (joined ms ns) n a q (joined ms ns')
+joined_second ms ns ns' n i a (Ok d) q e h k l s =
+    let P : Result ℕ RowFault → Type 0 = λ x. RowLoaded (joined ms ns) n a x (joined ms ns') in
+    subst P (sym s) (joined_back ms ns ns' n.0 i.0 a (Ok d) e h k l)
+joined_second ms ns ns' n i a (Err f) (Ok d) e h k l s = absurd s
+joined_second ms ns ns' n i a (Err f) (Err g) e h k l s =
+    let P : RowFault → Type 0 = λ x. RowLoaded (joined ms ns) n a (Err x) (joined ms ns') in
+    subst P (sym s) (joined_back_fault ms ns ns' n i a f e h k l)
+
 -- the run-time row
 all_lawful : {S : Type 0} (meaning : S → Meaning) (ss : List S) → ((s : S) → Lawful (meaning s).fresh) → AllLawful (map meaning ss)
 all_lawful meaning [] h = tt
@@ -104,11 +117,6 @@ banked_length meaning ss = simp (length-take, length-map) (omega arith)
 
 pub banked_few : {S : Type 0} (meaning : S → Meaning) (ss : List S) → length (banked meaning ss) ≤ 64
 banked_few meaning ss = omega (arith, banked_length meaning ss)
-
-pub banked_absent : {S : Type 0} (meaning : S → Meaning) (ss : List S) (n : ℕ) → (n ≡ 0) ⊎ ((64 < n) ⊎ (length ss < n)) → Absent (banked meaning ss) n
-banked_absent meaning ss n (inl z) = inl z
-banked_absent meaning ss n (inr (inl z)) = inr (omega (arith, banked_length meaning ss))
-banked_absent meaning ss n (inr (inr z)) = inr (omega (arith, banked_length meaning ss))
 
 at_set :
     {S : Type 0} (meaning : S → Meaning) (ss : List S) (n a : ℕ) (s s' : S) (r : Result ℕ LoadFault)
@@ -127,6 +135,15 @@ banked_loads meaning ss n a s s' r one few h e l =
     let d : suc (n - 1) ≡ n = omega arith in
     at_take 64 (map meaning ss) (map meaning (slice_set ss (n - 1) s')) n a r few
     (subst P d (at_set meaning ss (n - 1) a s s' r (omega arith) e l))
+
+-- a load of a station, its fault under the station's number
+pub stationed :
+    (ms ms' : List Meaning) (n : StageNo) (a : ℕ) (r : Result ℕ LoadFault) (q : Result ℕ RowFault)
+    → LoadedAt ms n.0 a r ms' → MatchResult r (λ d. q ≡ Ok d) (λ f. IsErrAnd q (λ e. e ≡ Refused n f)) → RowLoaded ms n a q ms'
+stationed ms ms' n a (Ok d) q l s = let P : Result ℕ RowFault → Type 0 = λ x. RowLoaded ms n a x ms' in subst P (sym s) l
+stationed ms ms' n a (Err f) (Ok d) l s = absurd s
+stationed ms ms' n a (Err f) (Err g) l s =
+    let P : RowFault → Type 0 = λ x. RowLoaded ms n a (Err x) ms' in subst P (sym s) (refl, l)
 
 -- The first i stations of the second list are those of the first made fresh, and the others are as they were.
 abbrev pub FreshTo : {S : Type 0} → (S → Meaning) → ℕ → List S → List S → Type 0

@@ -15,7 +15,7 @@ pub struct Bank<S> {
 impl<S: Station> Bank<S> {
     // The row of these stations, as they are.
     pub fn new(stations: Vec<S>) -> Bank<S>
-        ensures { banked S.Station.meaning result.stations.items ≡ banked S.Station.meaning stations.items }
+        ensures { ⟦<Bank<S> as Row>⟧.meanings result ≡ banked S.Station.meaning stations.items }
     {
         Bank { stations }
     }
@@ -28,21 +28,21 @@ impl<S: Station> Row for Bank<S> {
 
     ghost few = { λ r. banked_few S.Station.meaning r.stations.items };
 
+    #[tactic(auto, using(crate::specs::Numbering::banked_length))]
     fn len(&self) -> u32 {
         self.stations.len().min(64) as u32
     }
 
     fn load(&mut self, stage: StageNo, arrival: u32) -> Result<u32, RowFault> {
-        let number = stage.0 as usize;
-        if number == 0 || number > 64 || number > self.stations.len() {
+        if stage.0 == 0 || stage.0 > self.len() {
             return Err(RowFault::NoStation(stage));
         }
-        match self.stations[number - 1].load(arrival) {
-            Ok(departure) => Ok(departure),
-            Err(fault) => Err(RowFault::Refused(stage, fault)),
-        }
+        self.stations[stage.0 as usize - 1]
+            .load(arrival)
+            .map_err(|fault| RowFault::Refused(stage, fault))
     }
 
+    #[tactic(auto, using(crate::specs::Numbering::fresh_more, crate::specs::Numbering::banked_fresh))]
     fn fresh(&mut self) {
         for station in self.stations.iter_mut() {
             station.fresh();

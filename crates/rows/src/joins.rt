@@ -15,7 +15,7 @@ pub struct Joined<A, B> {
 impl<A: Row, B: Row> Joined<A, B> {
     // The two rows joined, as they are.
     pub fn new(first: A, second: B) -> Joined<A, B>
-        ensures { joined (A.Row.meanings result.first) (B.Row.meanings result.second) ≡ joined (A.Row.meanings first) (B.Row.meanings second) }
+        ensures { ⟦<Joined<A, B> as Row>⟧.meanings result ≡ joined (A.Row.meanings first) (B.Row.meanings second) }
     {
         Joined { first, second }
     }
@@ -28,10 +28,12 @@ impl<A: Row, B: Row> Row for Joined<A, B> {
 
     ghost few = { λ r. joined_few (A.Row.meanings r.first) (B.Row.meanings r.second) };
 
+    #[tactic(auto, using(crate::specs::Numbering::joined_length))]
     fn len(&self) -> u32 {
         (self.first.len() + self.second.len()).min(64)
     }
 
+    #[tactic(auto, using(crate::specs::Numbering::joined_front, crate::specs::Numbering::joined_past))]
     fn load(&mut self, stage: StageNo, arrival: u32) -> Result<u32, RowFault> {
         let before = self.first.len();
         if stage.0 <= before {
@@ -40,10 +42,9 @@ impl<A: Row, B: Row> Row for Joined<A, B> {
         if stage.0 > 64 {
             return Err(RowFault::NoStation(stage));
         }
-        match self.second.load(StageNo(stage.0 - before), arrival) {
-            Ok(departure) => Ok(departure),
-            Err(fault) => Err(fault.renumbered(stage)),
-        }
+        self.second
+            .load(StageNo(stage.0 - before), arrival)
+            .map_err(|fault| fault.renumbered(stage))
     }
 
     #[tactic(auto, using(crate::specs::Numbering::joined_fresh))]

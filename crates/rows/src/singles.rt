@@ -14,7 +14,7 @@ pub struct Single<S> {
 impl<S: Station> Single<S> {
     // The row of this station, as it is.
     pub fn new(station: S) -> Single<S>
-        ensures { S.Station.meaning result.station ≡ S.Station.meaning station }
+        ensures { ⟦<Single<S> as Row>⟧.meanings result ≡ S.Station.meaning station ∷ [] }
     {
         Single { station }
     }
@@ -35,8 +35,7 @@ impl<S: Station> Row for Single<S> {
         if stage.0 != 1 {
             return Err(RowFault::NoStation(stage));
         }
-        let departure = self.station.load(arrival)?;
-        Ok(departure)
+        Ok(self.station.load(arrival)?)
     }
 
     fn fresh(&mut self) {

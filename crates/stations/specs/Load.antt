@@ -1,4 +1,4 @@
-use Rattle.std.specs.Prelude.{◌≡◌, ℕ, Bool, cond, List, ◌∷◌, Some, None, Ok, Err, Option, Result, nat_lt}
+use Rattle.std.specs.Prelude.{◌≡◌, ℕ, Bool, cond, codes, List, ◌∷◌, Some, None, Ok, Err, Option, Result, nat_lt}
 use Rattle.calendar.specs.Clock.{E}
 use Rattle.stations.specs.Rule.{Meaning, Rising, before}
 use Rattle.stations.specs.declared.loading.LoadFault.{LoadFault}
@@ -8,6 +8,11 @@ use Rattle.stations.specs.declared.loading.LoadFault.TheVariants.{PastEnd, OutOf
 abbrev pub number : LoadFault → ℕ
 number PastEnd = 3
 number OutOfOrder = 4
+
+-- Why a load is refused, in words.
+abbrev pub load_reason : LoadFault → List ℕ
+load_reason PastEnd = codes "past the end of the clock"
+load_reason OutOfOrder = codes "before the last arrival"
 
 -- The number that refuses a load of a, if any: 3 is tried first. Early tells which arrivals come too early.
 abbrev pub refusal : (ℕ → Bool) → ℕ → Option ℕ

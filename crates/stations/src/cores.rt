@@ -7,6 +7,7 @@ ghost use Rattle.stations.specs.Serving.{serving, machine, oven};
 ghost use Rattle.stations.specs.declared.cores.CoreWork.TheVariants.{Machine, Oven};
 ghost use Rattle.stations.specs.Serves.{machine_steady, oven_steady};
 
+use crate::loading::Station;
 use crate::machines::{Machine, MachineWork};
 use crate::ovens::{Oven, OvenWork};
 use crate::served::{Served, Work};
@@ -55,25 +56,15 @@ pub type Core = Served<CoreWork>;
 impl Served<CoreWork> {
     // A fresh machine, or which setting is off its range.
     pub fn machine(places: u32, minutes: u32) -> Result<Core, SettingFault>
-        ensures { Makes (first_off pieces.Machine 1 (machine_settings places minutes)) (λ c. (serving c.places.count (core_pace c.work) c.places.free c.last ≡ serving places (machine minutes) [] None)) result }
+        ensures { Makes (first_off pieces.Machine 1 (machine_settings places minutes)) (λ c. ⟦<Core as Station>⟧.meaning c ≡ serving places (machine minutes) [] None) result }
     {
-        let Served { work, places, last } = Machine::new(places, minutes)?;
-        Ok(Served {
-            work: CoreWork::Machine(work),
-            places,
-            last,
-        })
+        Ok(Machine::new(places, minutes)?.map_work(CoreWork::Machine))
     }
 
     // A fresh oven, or which setting is off its range.
     pub fn oven(cycle: u32, places: u32, bake: u32) -> Result<Core, SettingFault>
-        ensures { Makes (first_off pieces.Oven 1 (oven_settings cycle places bake)) (λ c. (serving c.places.count (core_pace c.work) c.places.free c.last ≡ serving places (oven cycle bake) [] None)) result }
+        ensures { Makes (first_off pieces.Oven 1 (oven_settings cycle places bake)) (λ c. ⟦<Core as Station>⟧.meaning c ≡ serving places (oven cycle bake) [] None) result }
     {
-        let Served { work, places, last } = Oven::new(cycle, places, bake)?;
-        Ok(Served {
-            work: CoreWork::Oven(work),
-            places,
-            last,
-        })
+        Ok(Oven::new(cycle, places, bake)?.map_work(CoreWork::Oven))
     }
 }

@@ -1,10 +1,11 @@
-ghost use Rattle.std.specs.Prelude.{◌≡◌};
+ghost use Rattle.std.specs.Prelude.{◌≡◌, Some};
 ghost use Rattle.std.specs.Option.{option_map};
 ghost use Rattle.std.specs.Result.{result_err};
 ghost use Rattle.stations.specs.Rule.{Meaning, Lawful, before, freshened};
-ghost use Rattle.stations.specs.Load.{number, refusal, Loaded};
+ghost use Rattle.stations.specs.Load.{number, refusal, load_reason, Loaded};
 
 use calendar::clock::END;
+use std::fmt;
 
 // Why a load is refused.
 #[derive(Clone, Copy, PartialEq, Eq, Debug)]
@@ -24,6 +25,17 @@ impl LoadFault {
             LoadFault::PastEnd => 3,
             LoadFault::OutOfOrder => 4,
         }
+    }
+}
+
+impl fmt::Display for LoadFault {
+    ghost output = { λ e. Some (load_reason e) };
+
+    fn fmt<W: fmt::Write>(&self, f: &mut fmt::Formatter<W>) -> fmt::Result {
+        f.write_str(match self {
+            LoadFault::PastEnd => "past the end of the clock",
+            LoadFault::OutOfOrder => "before the last arrival",
+        })
     }
 }
 

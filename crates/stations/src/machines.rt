@@ -7,7 +7,7 @@ ghost use Rattle.stations.specs.Serving.{serving, served, machine};
 ghost use Rattle.stations.specs.ServingLaw.{LeavesInTurn};
 ghost use Rattle.stations.specs.Serves.{machine_steady};
 
-use crate::places::Places;
+use crate::loading::Station;
 use crate::served::{Served, Work};
 use calendar::clock::END;
 use calendar::settings::{Piece, SettingFault, on_range};
@@ -44,21 +44,15 @@ pub type Machine = Served<MachineWork>;
 impl Served<MachineWork> {
     // A fresh machine of 1 to 8 places and 1 to 1,440 minutes, or which setting is off its range.
     pub fn new(places: u32, minutes: u32) -> Result<Machine, SettingFault>
-        ensures { Makes (first_off pieces.Machine 1 (machine_settings places minutes)) (λ m. (serving m.places.count (machine m.work.minutes) m.places.free m.last ≡ serving places (machine minutes) [] None) × LeavesInTurn places minutes (served places (machine minutes) [])) result }
+        ensures { Makes (first_off pieces.Machine 1 (machine_settings places minutes)) (λ m. (⟦<Machine as Station>⟧.meaning m ≡ serving places (machine minutes) [] None) × LeavesInTurn places minutes (served places (machine minutes) [])) result }
     {
         on_range(Piece::Machine, 1, places, 1, 8)?;
         on_range(Piece::Machine, 2, minutes, 1, 1440)?;
-        let places = Places {
-            count: places as usize,
-            free: [0; 16],
-        };
-        Ok(Served::with_places(MachineWork { minutes }, places))
+        Ok(Served::with_places(MachineWork { minutes }, places as usize))
     }
 }
 
 // The departures from a fresh machine that were worked by hand.
-pub fn machine_by_hand() -> u8
+pub fn machine_by_hand()
     ensures { MachineByHand }
-{
-    0
-}
+{}

@@ -3,11 +3,11 @@ ghost use Rattle.calendar.specs.Settings.{first_off, Makes};
 ghost use Rattle.calendar.specs.declared.settings.Piece.TheVariants as pieces;
 ghost use Rattle.stations.specs.ByHand.{OvenByHand};
 ghost use Rattle.stations.specs.Pieces.{oven_settings};
-ghost use Rattle.stations.specs.Serving.{serving, served, oven, round_up};
+ghost use Rattle.stations.specs.Serving.{serving, served, oven};
 ghost use Rattle.stations.specs.ServingLaw.{StartsInTurn};
 ghost use Rattle.stations.specs.Serves.{oven_steady};
 
-use crate::places::Places;
+use crate::loading::Station;
 use crate::served::{Served, Work};
 use calendar::clock::END;
 use calendar::settings::{Piece, SettingFault, on_range};
@@ -23,21 +23,14 @@ pub struct OvenWork {
     ghost within: { bake ≤ cycle },
 }
 
-// The least multiple of `cycle` at or after `time`.
-fn rounded_up(time: u32, cycle: u32) -> u32
-    requires { (time ≤ 1000000) × ((1 ≤ cycle) × (cycle ≤ 1440)) }
-    ensures { result ≡ round_up cycle time }
-{
-    (time + (cycle - 1)) / cycle * cycle
-}
-
 impl Work for OvenWork {
     ghost pace = { λ w. oven w.cycle w.bake };
 
     ghost steady = { λ w. oven_steady w.cycle w.bake w.turns w.bakes };
 
+    #[tactic(auto, using(crate::specs::Serves::next_rounds))]
     fn earliest(&self, arrival: u32) -> u32 {
-        rounded_up(arrival.min(END), self.cycle)
+        arrival.min(END).next_multiple_of(self.cycle)
     }
 
     fn turn(&self) -> u32 {
@@ -56,22 +49,16 @@ impl Served<OvenWork> {
     // A fresh oven with a cycle of 1 to 1,440 minutes, 1 to 16 places and 1 minute to a cycle of baking, or which setting is
     // off its range.
     pub fn new(cycle: u32, places: u32, bake: u32) -> Result<Oven, SettingFault>
-        ensures { Makes (first_off pieces.Oven 1 (oven_settings cycle places bake)) (λ o. (serving o.places.count (oven o.work.cycle o.work.bake) o.places.free o.last ≡ serving places (oven cycle bake) [] None) × StartsInTurn cycle places bake (served places (oven cycle bake) [])) result }
+        ensures { Makes (first_off pieces.Oven 1 (oven_settings cycle places bake)) (λ o. (⟦<Oven as Station>⟧.meaning o ≡ serving places (oven cycle bake) [] None) × StartsInTurn cycle places bake (served places (oven cycle bake) [])) result }
     {
         on_range(Piece::Oven, 1, cycle, 1, 1440)?;
         on_range(Piece::Oven, 2, places, 1, 16)?;
         on_range(Piece::Oven, 3, bake, 1, cycle)?;
-        let places = Places {
-            count: places as usize,
-            free: [0; 16],
-        };
-        Ok(Served::with_places(OvenWork { cycle, bake }, places))
+        Ok(Served::with_places(OvenWork { cycle, bake }, places as usize))
     }
 }
 
 // The departures from a fresh oven that were worked by hand.
-pub fn oven_by_hand() -> u8
+pub fn oven_by_hand()
     ensures { OvenByHand }
-{
-    0
-}
+{}

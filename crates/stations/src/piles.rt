@@ -15,7 +15,7 @@ pub type Pile = Move<InWeek<Core>>;
 
 // A station with a week and a way to it, made fresh.
 pub fn piled<S: Station>(station: S, week: Week, way: Way) -> Move<InWeek<S>>
-    ensures { layered (moving result.by.minutes) result.last (layered (weekly result.below.by) result.below.last (S.Station.meaning result.below.below)) ≡ freshened (layered (moving way.minutes) None (layered (weekly week) None (S.Station.meaning station))) }
+    ensures { ⟦<Move<InWeek<S>> as Station>⟧.meaning result ≡ freshened (layered (moving way.minutes) None (layered (weekly week) None (S.Station.meaning station))) }
 {
     Over::new(way, Over::new(week, station))
 }

@@ -1,47 +1,44 @@
-ghost use Rattle.std.specs.Prelude.{◌≡◌, ℕ, ◌+◌, ◌-◌, ◌<◌, ◌≤◌, max, ◌∷◌, length, replicate, slice_index};
+ghost use Rattle.std.specs.Prelude.{◌≡◌, ◌+◌, ◌-◌, ◌≤◌, max, ◌∷◌, replicate, slice_index, take};
+ghost use Rattle.arrayvec.specs.ArrayVec.{array_vec_len};
 ghost use Rattle.calendar.specs.Clock.{cut};
 
+use arrayvec::ArrayVec;
 use calendar::clock::later_by;
 
-// The places of a station: how many there are, and when those taken last are free again, the last one first.
+// The places of a station: for each, when it is free again, the one taken last first.
 #[derive(Drop)]
 pub struct Places {
-    pub count: usize,
-    pub free: [u32; 16],
-    ghost some: { 1 ≤ count },
-    ghost fit: { count ≤ 16 },
-}
-
-// Puts `first` before the times, and lets the last one go.
-fn shift_in(times: &mut [u32], first: u32)
-    ensures { (i : ℕ) → i < length times.new → slice_index times.new i ≡ slice_index (first ∷ times.old) i }
-{
-    let mut carried = first;
-    for time in times.iter_mut() {
-        let next = *time;
-        *time = carried;
-        carried = next;
-    }
+    pub free: ArrayVec<u32, 16>,
+    ghost some: { 1 ≤ array_vec_len free },
+    ghost fit: { array_vec_len free ≤ 16 },
 }
 
 impl Places {
+    // So many places, all free.
+    pub fn new(count: usize) -> Places
+        requires { (1 ≤ count) × (count ≤ 16) }
+        ensures { result.free.items ≡ replicate count 0 }
+    {
+        let mut free = ArrayVec::from([0; 16]);
+        free.truncate(count);
+        Places { free }
+    }
+
     // Takes the place that was taken as many parts ago as there are places, from `earliest` on, for `turn` minutes, and answers
     // the start.
     pub fn take(&mut self, earliest: u32, turn: u32) -> u32
-        ensures start { result ≡ max earliest (slice_index self.old.free (self.old.count - 1)) }
-        ensures count { self.new.count ≡ self.old.count }
-        ensures taken { (i : ℕ) → i < 16 → slice_index self.new.free i ≡ slice_index (cut (result + turn) ∷ self.old.free) i }
+        ensures start { result ≡ max earliest (slice_index self.old.free.items (array_vec_len self.old.free - 1)) }
+        ensures taken { self.new.free.items ≡ cut (result + turn) ∷ take (array_vec_len self.old.free - 1) self.old.free.items }
     {
-        let start = earliest.max(self.free[self.count - 1]);
-        shift_in(&mut self.free, later_by(start, turn));
+        let start = earliest.max(self.free.pop().unwrap());
+        self.free.insert(0, later_by(start, turn));
         start
     }
 
     // Makes every place free.
     pub fn clear(&mut self)
-        ensures count { self.new.count ≡ self.old.count }
-        ensures free { self.new.free ≡ replicate 16 0 }
+        ensures { self.new.free.items ≡ replicate (array_vec_len self.old.free) 0 }
     {
-        self.free = [0; 16];
+        self.free.as_mut_slice().fill(0);
     }
 }

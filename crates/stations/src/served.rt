@@ -1,4 +1,5 @@
-ghost use Rattle.std.specs.Prelude.{◌≡◌, [], None};
+ghost use Rattle.std.specs.Prelude.{◌≡◌, ◌≤◌, [], None};
+ghost use Rattle.arrayvec.specs.ArrayVec.{array_vec_len};
 ghost use Rattle.calendar.specs.Clock.{cut};
 ghost use Rattle.stations.specs.Serving.{Pace, Steady, serving};
 ghost use Rattle.stations.specs.Serves.{served_lawful};
@@ -36,22 +37,39 @@ pub struct Served<W> {
 
 impl<W: Work> Served<W> {
     // A fresh station with so many places.
-    pub(crate) fn with_places(work: W, mut places: Places) -> Served<W>
-        ensures { serving result.places.count (W.Work.pace result.work) result.places.free result.last ≡ serving places.count (W.Work.pace work) [] None }
+    pub(crate) fn with_places(work: W, count: usize) -> Served<W>
+        requires { (1 ≤ count) × (count ≤ 16) }
+        ensures { ⟦<Served<W> as Station>⟧.meaning result ≡ serving count (W.Work.pace work) [] None }
     {
-        places.clear();
         Served {
             work,
-            places,
+            places: Places::new(count),
             last: None,
         }
     }
 }
 
-impl<W: Work> Station for Served<W> {
-    ghost meaning = { λ s. serving s.places.count (W.Work.pace s.work) s.places.free s.last };
+impl<W> Served<W> {
+    // The station with its work turned into another kind.
+    pub(crate) fn map_work<V, F: FnOnce(W) -> V>(self, turn_into: F) -> Served<V>
+        requires { F.pre turn_into self.work }
+        ensures work { F.post turn_into self.work result.work }
+        ensures places { result.places ≡ self.places }
+        ensures last { result.last ≡ self.last }
+    {
+        let Served { work, places, last } = self;
+        Served {
+            work: turn_into(work),
+            places,
+            last,
+        }
+    }
+}
 
-    ghost lawful = { λ s. served_lawful s.places.count (W.Work.pace s.work) (W.Work.steady s.work) };
+impl<W: Work> Station for Served<W> {
+    ghost meaning = { λ s. serving (array_vec_len s.places.free) (W.Work.pace s.work) s.places.free.items s.last };
+
+    ghost lawful = { λ s. served_lawful (array_vec_len s.places.free) (W.Work.pace s.work) (W.Work.steady s.work) };
 
     fn load(&mut self, arrival: u32) -> Result<u32, LoadFault> {
         admit(self.last, arrival)?;

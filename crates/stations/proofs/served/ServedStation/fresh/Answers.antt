@@ -1,7 +1,8 @@
 use Rattle.stations.specs.Serves.{serves_fresh}
+use Rattle.arrayvec.specs.ArrayVec.{array_vec_len}
 use Rattle.stations.proofs.served.ServedStation.fresh.Goals as goal
 
 pub returns : goal.returns
 returns g c =
     let s = c.args.self.now in
-    serves_fresh s.places.count _ (g.W.Work.pace s.work) c.clear.new.self.free s.places.some c.clear.ensures.count c.clear.ensures.free
+    serves_fresh (array_vec_len s.places.free) (g.W.Work.pace s.work) c.clear.new.self.free.items s.places.some c.clear.ensures

@@ -4,6 +4,6 @@ use Rattle.stations.proofs.served.ServedStation.load.Goals as goal
 pub returns : goal.returns
 returns g c =
     let s = c.args.self.now in
-    serves s.places.count _ (g.W.Work.pace s.work) s.places.free c.take-start.new.self.free _ _ _ _ _ c.take-start.result _
-    s.places.some s.places.fit c.take-start.ensures.count c.in_ok-admit.ensures c.earliest.ensures c.turn.ensures
+    serves (g.W.Work.pace s.work) s.places.free.items c.take-start.new.self.free.items _ _ _ _ _ c.take-start.result _
+    s.places.some c.in_ok-admit.ensures c.earliest.ensures c.turn.ensures
     c.stay.ensures c.take-start.ensures.start c.later_by.ensures c.take-start.ensures.taken
