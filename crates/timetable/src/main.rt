@@ -2,6 +2,7 @@
 #![tactic(auto)]
 
 mod sample;
+mod stops;
 mod tables;
 
 use controls::base::Base;
@@ -13,29 +14,23 @@ use inquiries::names::ControlName;
 use inquiries::reading::{Inquiry, read_inquiry};
 use ledger::board::Board;
 use ledger::book::Book;
+use ledger::bookings::Booking;
 use lines::line::Line;
 use rows::loading::Row;
-use sample::{BOOKINGS, SampleRow, sample_row, tell_row};
+use sample::{BOOKINGS, sample_row, tell_row};
 use stations::numbers::PartNo;
 use std::io;
 use std::io::Read;
 use std::process::ExitCode;
+use stops::Stop;
 use tables::tell_sheet;
 
 // More than any inquiry has.
 const MOST_READ: u64 = 1_024;
 
-// Tells why a step was refused, and ends.
-fn refused(rt: &HostRuntime, step: &str, number: u32) -> io::Result<ExitCode> {
-    eprintln!(rt; "{step}: refused {number}")?;
-    Ok(ExitCode::FAILURE)
-}
-
 // Books the sample parts, and tells each.
 fn book_parts(rt: &HostRuntime, book: &mut Book) -> io::Result<()> {
-    for booking in BOOKINGS {
-        let call = booking.call;
-        let due = booking.due;
+    for Booking { call, due } in BOOKINGS {
         match book.book(call, due) {
             Ok(()) => println!(rt; "booked: call {call}, due {due}")?,
             Err(fault) => {
@@ -56,8 +51,7 @@ fn tell_answer(
 ) -> io::Result<()> {
     match first {
         None => println!(rt; "run: {parts} parts, none missed"),
-        Some(part) => {
-            let part = part.0;
+        Some(PartNo(part)) => {
             println!(rt; "run: {parts} parts, {missed} missed, the first is part {part}")
         }
     }
@@ -72,76 +66,50 @@ fn tell_board(rt: &HostRuntime, board: &Board) -> io::Result<()> {
     println!(rt; "")
 }
 
-// Runs the booked parts, and tells their times.
-fn run_parts<C: Control>(
-    rt: &HostRuntime,
-    line: &mut Line<SampleRow, C>,
-    stages: u32,
-    book: &Book,
-    board: &Board,
-) -> io::Result<ExitCode> {
-    let mut sheet = vec![in rt.alloc(); 0; 25 * 128]?;
-    match line.run(book, board, &mut sheet) {
-        Ok((missed, first)) => {
-            tell_answer(rt, book.parts().len(), missed, first)?;
-            tell_sheet(rt, stages, book.parts(), &sheet)?;
-            Ok(ExitCode::SUCCESS)
-        }
-        Err(fault) => refused(rt, "run", fault.number()),
-    }
-}
-
-// Makes book and board, books the sample parts and runs them.
-fn fill_book<C: Control>(
-    rt: &HostRuntime,
-    line: &mut Line<SampleRow, C>,
-    inquiry: &Inquiry,
-) -> io::Result<ExitCode> {
-    let board = match Board::new(rt.alloc(), inquiry.counts.as_slice()) {
-        Ok(board) => board,
-        Err(fault) => return refused(rt, "board", fault.number()),
-    };
-    tell_board(rt, &board)?;
-    let mut book = match Book::new(rt.alloc()) {
-        Ok(book) => book,
-        Err(fault) => return refused(rt, "book", fault.number()),
-    };
-    book_parts(rt, &mut book)?;
-    run_parts(rt, line, inquiry.stages, &book, &board)
-}
-
-// Makes the line, and runs it.
-fn make_line<C: Control + Drop>(
+// Makes the line, its book and its board, books the sample parts, runs them and tells their times.
+fn run_sample<C: Control + Drop>(
     rt: &HostRuntime,
     control: C,
     inquiry: &Inquiry,
-) -> io::Result<ExitCode> {
+) -> Result<(), Stop> {
     let stages = inquiry.stages;
-    let name = inquiry.control.word();
-    let row = match sample_row() {
-        Ok(row) => row,
-        Err(fault) => return refused(rt, "stations", fault.number()),
-    };
+    let name = inquiry.control;
+    let row = sample_row()?;
     tell_row(rt)?;
-    match Line::new(row, control, stages) {
-        Err(fault) => refused(rt, "line", fault.number()),
-        Ok(mut line) => {
-            println!(rt; "line: {stages} stages under {name}")?;
-            fill_book(rt, &mut line, inquiry)
-        }
+    let mut line = Line::new(row, control, stages).map_err(Stop::Line)?;
+    println!(rt; "line: {stages} stages under {name}")?;
+    let board = Board::new(rt.alloc(), inquiry.counts.as_slice())?;
+    tell_board(rt, &board)?;
+    let mut book = Book::new(rt.alloc())?;
+    book_parts(rt, &mut book)?;
+    let mut sheet = vec![in rt.alloc(); 0; 25 * 128]?;
+    let (missed, first) = line.run(&book, &board, &mut sheet).map_err(Stop::Run)?;
+    tell_answer(rt, book.parts().len(), missed, first)?;
+    tell_sheet(rt, stages, book.parts(), &sheet)?;
+    Ok(())
+}
+
+// Reads the inquiry, and runs the sample under its control.
+fn answer(rt: &HostRuntime) -> Result<(), Stop> {
+    let mut text = Vec::new(rt.alloc());
+    rt.stdin().take(MOST_READ).read_to_end(&mut text)?;
+    let inquiry = read_inquiry(text.as_slice())?;
+    // A match by name: each control is a type of its own, and a `dyn Control` cannot have the constant.
+    match inquiry.control {
+        ControlName::Base => run_sample(rt, Base, &inquiry),
+        ControlName::Kanban => run_sample(rt, Kanban, &inquiry),
+        ControlName::General => run_sample(rt, General, &inquiry),
+        ControlName::Extended => run_sample(rt, Extended, &inquiry),
     }
 }
 
 fn main(rt: HostRuntime) -> io::Result<ExitCode> {
-    let mut text = Vec::new(rt.alloc());
-    rt.stdin().take(MOST_READ).read_to_end(&mut text)?;
-    match read_inquiry(text.as_slice()) {
-        Err(_) => refused(&rt, "inquiry", 16),
-        Ok(inquiry) => match inquiry.control {
-            ControlName::Base => make_line(&rt, Base, &inquiry),
-            ControlName::Kanban => make_line(&rt, Kanban, &inquiry),
-            ControlName::General => make_line(&rt, General, &inquiry),
-            ControlName::Extended => make_line(&rt, Extended, &inquiry),
-        },
+    match answer(&rt) {
+        Ok(()) => Ok(ExitCode::SUCCESS),
+        Err(Stop::Io(error)) => Err(error),
+        Err(stop) => {
+            eprintln!(rt; "{stop}")?;
+            Ok(ExitCode::FAILURE)
+        }
     }
 }

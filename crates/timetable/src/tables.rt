@@ -1,53 +1,32 @@
+ghost use Rattle.std.specs.Iterator.{IsFinite};
+
 use ledger::bookings::Booking;
 use std::io;
 
-// Tells the first numbers of the sheet as a row, and answers what follows them.
-fn tell_row<'s>(rt: &HostRuntime, sheet: &'s [u32], parts: usize) -> io::Result<&'s [u32]> {
-    for minute in sheet.iter().take(parts) {
-        print!(rt; "{:>9}", *minute)?;
+// Tells a row of numbers, and ends the line.
+fn tell_numbers<I: Iterator<Item = u32> + Drop>(rt: &HostRuntime, numbers: I) -> io::Result<()>
+    requires can { I.can_next numbers }
+    requires ends { IsFinite (I.remaining numbers) }
+{
+    for number in numbers {
+        print!(rt; "{number:>9}")?;
     }
-    println!(rt; "")?;
-    Ok(sheet.get(parts..).unwrap_or(&[]))
+    println!(rt; "")
 }
 
-// Tells a row for each stage, and answers what follows them.
-fn tell_stages<'s>(
-    rt: &HostRuntime,
-    kind: &str,
-    stages: u32,
-    sheet: &'s [u32],
-    parts: usize,
-) -> io::Result<&'s [u32]> {
-    let mut rest = sheet;
-    for earlier in 0..stages {
-        let stage = earlier + 1;
-        print!(rt; "{kind:>10} {stage}")?;
-        rest = tell_row(rt, rest, parts)?;
-    }
+// Tells the first numbers of the sheet as a row, and answers what follows them.
+fn tell_row<'s>(rt: &HostRuntime, sheet: &'s [u32], parts: usize) -> io::Result<&'s [u32]> {
+    let (row, rest) = sheet.split_at(parts.min(sheet.len()));
+    tell_numbers(rt, row.iter().copied())?;
     Ok(rest)
 }
 
 // Tells the numbers and the calls of the parts.
 fn tell_parts(rt: &HostRuntime, book: &[Booking]) -> io::Result<()> {
     print!(rt; "        part")?;
-    for part in 0..book.len() {
-        print!(rt; "{:>9}", part + 1)?;
-    }
-    println!(rt; "")?;
+    tell_numbers(rt, (1u32..).take(book.len()))?;
     print!(rt; "        call")?;
-    for booking in book {
-        print!(rt; "{:>9}", booking.call)?;
-    }
-    println!(rt; "")
-}
-
-// Tells the due minutes of the parts.
-fn tell_dues(rt: &HostRuntime, book: &[Booking]) -> io::Result<()> {
-    print!(rt; "         due")?;
-    for booking in book {
-        print!(rt; "{:>9}", booking.due)?;
-    }
-    println!(rt; "")
+    tell_numbers(rt, book.iter().map(|booking| booking.call))
 }
 
 // Tells the times of the booked parts, a row for each event and a column for each part.
@@ -57,12 +36,16 @@ pub(crate) fn tell_sheet(
     book: &[Booking],
     sheet: &[u32],
 ) -> io::Result<()> {
-    let parts = book.len();
     tell_parts(rt, book)?;
-    let rest = tell_stages(rt, "pass", stages, sheet, parts)?;
-    let rest = tell_stages(rt, "release", stages, rest, parts)?;
-    let rest = tell_stages(rt, "completion", stages, rest, parts)?;
+    let mut rest = sheet;
+    for kind in ["pass", "release", "completion"] {
+        for stage in 1..=stages {
+            print!(rt; "{kind:>10} {stage}")?;
+            rest = tell_row(rt, rest, book.len())?;
+        }
+    }
     print!(rt; "    delivery")?;
-    let _ = tell_row(rt, rest, parts)?;
-    tell_dues(rt, book)
+    let _ = tell_row(rt, rest, book.len())?;
+    print!(rt; "         due")?;
+    tell_numbers(rt, book.iter().map(|booking| booking.due))
 }
