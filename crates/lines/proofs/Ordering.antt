@@ -15,6 +15,7 @@ use Rattle.lines.specs.Sheet.{row_of}
 use Rattle.lines.specs.Asked.{asked}
 use Rattle.lines.specs.Order.{SourcePlaced, Ready, placed_by, Next, among, Follows, Begun, InOrder, Orderly}
 use Rattle.controls.proofs.Basics.{each_map₂}
+use Rattle.lines.proofs.Ends.{row_few}
 use Rattle.lines.proofs.Kept.{inside_of, steps_of}
 use Rattle.lines.proofs.Placing.{all_placed_by}
 
@@ -100,18 +101,28 @@ in_order N told flags es kept tells begun stuck = record {
 abbrev pub Turn : ℕ → (Event → List Wait) → List Bool → List Event → Type 0
 Turn N waits flags es = (length flags ≡ 25) × (length es + downs flags ≡ 25) × Shows N flags es × Begun N waits es
 
-pub turn_down : (N : ℕ) (waits : Event → List Wait) (flags : List Bool) (es : List Event) (e : Event) (r : ℕ) → Turn N waits flags es →
-    Next N waits (placed_by N flags) (Some e) → r ≡ row_of N e → r < 25 → downs (set flags r true) + 1 ≡ downs flags
-turn_down N waits flags es e r t found is lt = downs_set flags r (omega arith) (ap (λ x. get_or flags x false) is ∙ found.1)
+-- an event found next stands in a row that the flags have
+row_in : (N r : ℕ) (e : Event) → N ≤ 8 → InLine N e → r ≡ row_of N e → r < 25
+row_in N r e few e_in is = let f = row_few N e e_in in omega arith
 
-pub turn_more : (N : ℕ) (waits : Event → List Wait) (flags : List Bool) (es : List Event) (e : Event) (r : ℕ) → Turn N waits flags es →
-    ((e : Event) → InLine N e → Waits e → AllByRecursion (SourceIn N) (waits e)) → Next N waits (placed_by N flags) (Some e) → r ≡ row_of N e → r < 25 →
-    Turn N waits (set flags r true) (es ++ (e ∷ []))
-turn_more N waits flags es e r t inside found is lt =
-    let down = turn_down N waits flags es e r t found is lt in
-    let more = length-append es (e ∷ []) in (
-      length-set flags r true ∙ t.0,
-      omega arith,
-      subst (λ x. Shows N (set flags x true) (es ++ (e ∷ []))) (sym is) (tells_more N flags es e (omega arith) t.2),
-      begun_more N waits es e t.3 (follows_next N waits flags es e t.2 inside found.0 found.1 found.2),
-    )
+module _ (N : ℕ) (few : N ≤ 8) (waits : Event → List Wait) (flags : List Bool) (es : List Event) (e : Event) (r : ℕ) (t : Turn N waits flags es)
+    (found : Next N waits (placed_by N flags) (Some e)) (is : r ≡ row_of N e) where
+  lt : r < 25
+  lt = row_in N r e few found.0 is
+
+  down : downs (set flags r true) + 1 ≡ downs flags
+  down = downs_set flags r (omega (arith, lt, t.0)) (ap (λ x. get_or flags x false) is ∙ found.1)
+
+  pub fewer_down : downs (set flags r true) < downs flags
+  fewer_down = omega (arith, down)
+
+  pub has_room : length es < 25
+  has_room = omega (arith, down, t.1)
+
+  pub turn_more : ((e : Event) → InLine N e → Waits e → AllByRecursion (SourceIn N) (waits e)) → Turn N waits (set flags r true) (es ++ (e ∷ []))
+  turn_more inside = (
+    length-set flags r true ∙ t.0,
+    (let more = length-append es (e ∷ []) in omega (arith, more, down, t.1)),
+    subst (λ x. Shows N (set flags x true) (es ++ (e ∷ []))) (sym is) (tells_more N flags es e (subst (λ x. x < length flags) is (omega (arith, lt, t.0))) t.2),
+    begun_more N waits es e t.3 (follows_next N waits flags es e t.2 inside found.0 found.1 found.2),
+  )
