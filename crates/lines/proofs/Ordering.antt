@@ -1,5 +1,5 @@
 -- One more event is placed.
-use Rattle.std.proofs.Common.{◌≡◌, ℕ, zero, suc, ◌+◌, ◌<◌, Bool, true, false, ◌||◌, eqb, List, [], ◌∷◌, ◌++◌, length, get_or, take, set, Some, Option, sym, refl, ap, ◌∙◌, subst, subst₂, inl, inr, arith, length-append, length-set, eq-eqb, ne_eqb}
+use Rattle.std.proofs.Common.{◌≡◌, ℕ, zero, suc, ◌+◌, ◌<◌, ◌≤◌, Bool, true, false, ◌||◌, eqb, List, [], ◌∷◌, ◌++◌, length, get_or, take, set, Some, Option, sym, refl, ap, ◌∙◌, subst, subst₂, inl, inr, arith, length-append, length-set, eq-eqb, ne_eqb}
 use borrow.Author.Tests.{clash}
 use lib.ListN.{get_or-append}
 use lib.Seq.{take-append_seam, take-append-le}
