@@ -1,3 +1,4 @@
+use Rattle.std.proofs.Common.{arith}
 use Rattle.lines.specs.Asked.{asked}
 use Rattle.lines.proofs.Kept.{inside_of}
 use Rattle.lines.proofs.Ordering.{fewer_down, has_room, turn_more, in_order}
@@ -7,8 +8,8 @@ pub push-requires : goal.push-requires
 push-requires c =
     let table = c.args.self.now in
     let N = table.stages.count in
-    has_room N table.stages.few (asked N table.told) c.loop-event.placed c.loop-event.events.items c.in-Some.event c.row_of.result
-    c.loop-event.invariant c.in-Some.ensures c.row_of.ensures.row
+    let room = has_room N table.stages.few (asked N table.told) c.loop-event.placed c.loop-event.events.items c.in-Some.event c.row_of.result
+    c.loop-event.invariant c.in-Some.ensures c.row_of.ensures.row in (omega arith, room)
 
 pub loop-event-smaller : goal.loop-event-smaller
 loop-event-smaller c =
