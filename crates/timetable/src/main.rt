@@ -117,7 +117,7 @@ fn make_line<C: Control + Drop>(
     inquiry: &Inquiry,
 ) -> io::Result<ExitCode> {
     let stages = inquiry.stages;
-    let name = inquiry.control.word();
+    let name = inquiry.control;
     let row = match sample_row() {
         Ok(row) => row,
         Err(fault) => return refused(rt, "stations", fault.number()),
