@@ -49,7 +49,7 @@ impl<P: Through, S: Station> Station for Over<P, S> {
         through_lawful (P.Through.pass s.by) (P.Through.layer s.by) (S.Station.meaning s.below).fresh
         (S.Station.lawful s.below) };
 
-    #[tactic(auto, using(crate::specs::Layering::layer_passes))]
+    #[tactic(auto, using(crate::proofs::LayerLoads::layer_passes))]
     fn load(&mut self, arrival: u32) -> Result<u32, LoadFault> {
         admit(self.last, arrival)?;
         let departure = self.below.load(self.by.down(arrival))?;

@@ -28,7 +28,7 @@ impl Work for OvenWork {
 
     ghost steady = { λ w. oven_steady w.cycle w.bake w.turns w.bakes };
 
-    #[tactic(auto, using(crate::specs::Serves::next_rounds))]
+    #[tactic(auto, using(crate::proofs::Serves::next_rounds))]
     fn earliest(&self, arrival: u32) -> u32 {
         arrival.min(END).next_multiple_of(self.cycle)
     }
