@@ -33,7 +33,7 @@ impl<A: Row, B: Row> Row for Joined<A, B> {
         (self.first.len() + self.second.len()).min(64)
     }
 
-    #[tactic(auto, using(crate::specs::Numbering::joined_front, crate::specs::Numbering::joined_past))]
+    #[tactic(auto, using(crate::proofs::Numbering::joined_front, crate::proofs::Numbering::joined_past))]
     fn load(&mut self, stage: StageNo, arrival: u32) -> Result<u32, RowFault> {
         let before = self.first.len();
         if stage.0 <= before {
@@ -47,7 +47,7 @@ impl<A: Row, B: Row> Row for Joined<A, B> {
             .map_err(|fault| fault.renumbered(stage))
     }
 
-    #[tactic(auto, using(crate::specs::Numbering::joined_fresh))]
+    #[tactic(auto, using(crate::proofs::Numbering::joined_fresh))]
     fn fresh(&mut self) {
         self.first.fresh();
         self.second.fresh();
