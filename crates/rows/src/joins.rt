@@ -5,7 +5,8 @@ ghost use Rattle.rows.specs.Numbering.{joined_lawful, joined_few};
 use crate::loading::{Row, RowFault};
 use stations::numbers::StageNo;
 
-// The stations of two rows in one, those of the second numbered after those of the first. None past number 64 is part of it.
+// The stations of two rows in one, those of the second numbered after those of the first. None past number 64 is part
+// of it.
 #[derive(Drop)]
 pub struct Joined<A, B> {
     first: A,
@@ -15,7 +16,8 @@ pub struct Joined<A, B> {
 impl<A: Row, B: Row> Joined<A, B> {
     // The two rows joined, as they are.
     pub fn new(first: A, second: B) -> Joined<A, B>
-        ensures { ⟦<Joined<A, B> as Row>⟧.meanings result ≡ joined (A.Row.meanings first) (B.Row.meanings second) }
+        ensures { ⟦<Joined<A, B> as Row>⟧.meanings result
+            ≡ joined (A.Row.meanings first) (B.Row.meanings second) }
     {
         Joined { first, second }
     }
@@ -24,7 +26,8 @@ impl<A: Row, B: Row> Joined<A, B> {
 impl<A: Row, B: Row> Row for Joined<A, B> {
     ghost meanings = { λ r. joined (A.Row.meanings r.first) (B.Row.meanings r.second) };
 
-    ghost lawful = { λ r. joined_lawful (A.Row.meanings r.first) (B.Row.meanings r.second) (A.Row.lawful r.first) (B.Row.lawful r.second) };
+    ghost lawful = { λ r.
+        joined_lawful (A.Row.meanings r.first) (B.Row.meanings r.second) (A.Row.lawful r.first) (B.Row.lawful r.second) };
 
     ghost few = { λ r. joined_few (A.Row.meanings r.first) (B.Row.meanings r.second) };
 

@@ -31,7 +31,8 @@ pub struct Over<P, S> {
 impl<P: Through, S: Station> Over<P, S> {
     // The layer over the station, which is made fresh.
     pub fn new(by: P, mut below: S) -> Over<P, S>
-        ensures { ⟦<Over<P, S> as Station>⟧.meaning result ≡ freshened (layered (P.Through.pass by) None (S.Station.meaning below)) }
+        ensures { ⟦<Over<P, S> as Station>⟧.meaning result
+            ≡ freshened (layered (P.Through.pass by) None (S.Station.meaning below)) }
     {
         below.fresh();
         Over {
