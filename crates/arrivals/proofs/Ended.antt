@@ -1,5 +1,5 @@
 -- No byte of a stage's or an entry's line ends it, so that a line is read with its end as it is read alone.
-use Rattle.std.proofs.Common.{◌≡◌, ℕ, ◌<◌, List, [], ◌∷◌, ◌++◌, length, Some, None, codes, decimal, Option, sym, ap, ◌∙◌, arith, rules}
+use Rattle.std.proofs.Common.{ℕ, ◌<◌, List, [], ◌∷◌, ◌++◌, Some, None, codes, decimal, Option, ap, ◌∙◌, arith, rules}
 use Rattle.std.specs.Int.{IsInRange}
 use Rattle.std.specs.List.{AllByRecursion}
 use Rattle.std.proofs.lemmas.Fmt.{digits_decimal}
@@ -13,7 +13,6 @@ use Rattle.forms.specs.declared.stages.CoreForm.TheVariants.{Machine, Oven}
 use Rattle.arrivals.specs.declared.lines.Entry.{Entry}
 use Rattle.arrivals.specs.declared.lines.Entry.TheVariants.{Arrive, Fresh}
 use Rattle.arrivals.specs.Lines.{stage_written, entry_written, EntryFits}
-use Rattle.arrivals.specs.Lists.{stage_ended}
 
 -- each byte is above the one that ends a line
 abbrev pub Above : List ℕ → Type 0
@@ -88,7 +87,3 @@ line_says_none Fit W plain only out b x f is = out b f (only (W b) x (plain b f,
 pub lineless_none : {A : Type 0} (Fit : A → Type 0) (W : A → List ℕ) → ((a : A) → Fit a → Endless (W a)) → {text : List ℕ}
     → Lineless text → Unread Fit (λ a x. W a ++ (10 ∷ x)) text
 lineless_none Fit W plain out b x f is = out (W b) x (plain b f, is)
-
--- an empty text has no stage's line
-pub no_stage : {text : List ℕ} → text ≡ [] → Unread StageFits stage_ended text
-no_stage e b x f is = let z : 0 ≡ length (stage_ended b x) = ap length (sym e ∙ is) in omega arith

@@ -1,9 +1,7 @@
-ghost use Rattle.std.specs.Prelude.{◌≡◌, MatchResult, ◌≢◌};
-ghost use Rattle.forms.specs.Reading.{Says, SaysNothing};
+ghost use Rattle.std.specs.Prelude.{MatchResult};
+ghost use Rattle.forms.specs.Reading.{ReadsWord, Says, SaysNothing};
 ghost use Rattle.forms.specs.Stages.{stage_said, StageFits};
 ghost use Rattle.arrivals.specs.Lines.{entry_word, stage_written, entry_written, EntryFits};
-ghost use Rattle.forms.specs.declared.cursor.FormFault.TheVariants.{UnknownWord};
-ghost use Rattle.arrivals.specs.declared.lines.EntryWord.{EntryWord as EntryWordType};
 
 use forms::cursor::{Cursor, FormFault};
 use forms::stages::StageForm;
@@ -27,7 +25,7 @@ enum EntryWord {
 impl TryFrom<&[u8]> for EntryWord {
     type Error = FormFault;
 
-    ghost try_from_gives = { λ word r. MatchResult r (λ k. word.now ≡ entry_word k) (λ e. (e ≡ UnknownWord) × ((k : EntryWordType) → word.now ≢ entry_word k)) };
+    ghost try_from_gives = { λ word r. ReadsWord entry_word word.now r };
 
     fn try_from(word: &[u8]) -> Result<EntryWord, FormFault> {
         match word {
@@ -40,7 +38,8 @@ impl TryFrom<&[u8]> for EntryWord {
 
 // The stage of a line `(stage NAME CORE ..)`.
 pub fn read_stage_line<'f>(line: &'f [u8]) -> Result<StageForm<'f>, FormFault>
-    ensures { MatchResult result (λ s. Says StageFits stage_written line.now (stage_said s)) (λ _. SaysNothing StageFits stage_written line.now) }
+    ensures { MatchResult result (λ s. Says StageFits stage_written line.now (stage_said s))
+        (λ _. SaysNothing StageFits stage_written line.now) }
 {
     let mut cursor = Cursor { rest: line };
     cursor.opening(b"stage")?;
@@ -49,7 +48,8 @@ pub fn read_stage_line<'f>(line: &'f [u8]) -> Result<StageForm<'f>, FormFault>
 
 // The entry of a line `(arrive MINUTE)` or `(fresh)`.
 pub fn read_entry_line(line: &[u8]) -> Result<Entry, FormFault>
-    ensures { MatchResult result (λ d. Says EntryFits entry_written line.now d) (λ _. SaysNothing EntryFits entry_written line.now) }
+    ensures { MatchResult result (λ d. Says EntryFits entry_written line.now d)
+        (λ _. SaysNothing EntryFits entry_written line.now) }
 {
     let mut cursor = Cursor { rest: line };
     cursor.expect('(')?;

@@ -125,7 +125,8 @@ fn entry_line(cursor: &mut Cursor<'_>) -> Result<Entry, LineFault>
 // The entries of the lines after the first.
 fn read_entries(heap: Global, text: &[u8]) -> Result<Vec<Entry>, ListFault>
     requires { length text.now ≤ most_bytes }
-    ensures { MatchResult result (λ es. Says (AllByRecursion EntryFits) entries_written text.now es.items) (λ e. EntriesRefused e text.now) }
+    ensures { MatchResult result (λ es. Says (AllByRecursion EntryFits) entries_written text.now es.items)
+        (λ e. EntriesRefused e text.now) }
 {
     let mut cursor = Cursor { rest: text };
     let mut entries = Vec::new(heap);
@@ -139,7 +140,8 @@ fn read_entries(heap: Global, text: &[u8]) -> Result<Vec<Entry>, ListFault>
 
 // The list that `text` is, line by line.
 pub fn read_list<'f>(heap: Global, text: &'f [u8]) -> Result<ArrivalList<'f>, ListFault>
-    ensures { MatchResult result (λ a. (length text.now ≤ most_bytes) × Says ListFits list_written text.now (list_said a))
+    ensures { MatchResult result (λ a.
+        (length text.now ≤ most_bytes) × Says ListFits list_written text.now (list_said a))
         (λ e. ListRefused e text.now) }
 {
     if text.len() > MOST_BYTES {

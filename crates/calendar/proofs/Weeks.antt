@@ -2,6 +2,7 @@
 use Rattle.std.proofs.Common.{◌≡◌, ℕ, zero, suc, ◌+◌, ◌-◌, ◌*◌, ◌/◌, ◌%◌, ◌^◌, ◌<◌, ◌≤◌, min, Bool, true, false, cond, ◌&&◌, ◌||◌, ltb, leb, List, [], ◌∷◌, ◌++◌, length, get_or, take, refl, ap, ◌∙◌, mul-le-mul_right, mod-lt, add-mul, mul-le-mul_left, one-mul, div-add-mod', arith}
 use native.Mathlib.Decide.{dec_le}
 use Rattle.std.proofs.lemmas.Bool.{le-leb, lt-leb, leb-true, ltb-true, lt-ltb, le-ltb, and_parts, and_from, and_left, and_right, or_left}
+use Rattle.std.proofs.Math.Seq.{take-append_seam}
 use Rattle.std.proofs.lemmas.List.Sums.{sum_by-cons}
 use Rattle.calendar.specs.Week.{ordered, open_at, open_before, opened, total, reached, time_by}
 use Rattle.calendar.specs.WeekLaw.{Adjoint, Opens}
@@ -171,11 +172,7 @@ total_some [] o h = absurd (omega arith)
 total_some (s ∷ ss) o h = omega (arith, total_cons s ss, o.1)
 
 pub table_holds : (ss cs rest : List Shift) → cs ≡ ss → take (length ss) (cs ++ rest) ≡ ss
-table_holds ss cs rest e = ap (λ l. take (length ss) (l ++ rest)) e ∙ whole ss
-  where
-    whole : (l : List Shift) → take (length l) (l ++ rest) ≡ l
-    whole [] = refl
-    whole (s ∷ l) = ap (λ (m : List Shift). s ∷ m) (whole l)
+table_holds ss cs rest e = ap (λ l. take (length ss) (l ++ rest)) e ∙ take-append_seam ss rest
 
 opened_next : (low : ℕ) (ss : List Shift) (r : ℕ) → Ordered low ss → opened ss (suc r) ≡ opened ss r + cond (open_at ss r) 1 0
 opened_next low [] r o = refl

@@ -19,7 +19,8 @@ pub struct UnknownWeek;
 impl<'a> TryFrom<&'a [u8]> for HouseWeek {
     type Error = UnknownWeek;
 
-    ghost try_from_gives = { λ name r. MatchResult r (λ k. name.now ≡ house_name k) (λ _. (k : HouseWeekType) → name.now ≢ house_name k) };
+    ghost try_from_gives = { λ name r.
+        MatchResult r (λ k. name.now ≡ house_name k) (λ _. (k : HouseWeekType) → name.now ≢ house_name k) };
 
     fn try_from(name: &'a [u8]) -> Result<HouseWeek, UnknownWeek> {
         match name {

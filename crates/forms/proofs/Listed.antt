@@ -1,7 +1,7 @@
 -- A list of numbers, each after a space and the last before a bracket.
-use Rattle.std.proofs.Common.{◌≡◌, ℕ, zero, suc, ◌+◌, ◌^◌, ◌<◌, ◌≤◌, List, replicate, [], ◌∷◌, ◌++◌, length, get_or, take, set, decimal, sym, refl, ap, ◌∙◌, subst, append_assoc, arith, length-append, length-set}
+use Rattle.std.proofs.Common.{◌≡◌, ℕ, zero, suc, ◌+◌, ◌^◌, ◌<◌, ◌≤◌, List, [], ◌∷◌, ◌++◌, length, get_or, take, set, decimal, sym, refl, ap, ◌∙◌, subst, append_assoc, arith, length-append, length-set}
 use Rattle.std.specs.List.{AllByRecursion}
-use Rattle.std.proofs.lemmas.List.{take_all, length-replicate, take_more_set, flat_map_more, append-nil, length-take-le}
+use Rattle.std.proofs.lemmas.List.{take_all, take_more_set, flat_map_more, append-nil, length-take-le}
 use Rattle.forms.specs.Forms.{Low, Numbered, OnlyNumber}
 use Rattle.forms.specs.Reading.{Reading, Unread}
 use Rattle.forms.specs.Stages.{one, two, three, last_text, LowEach, spaced}
@@ -23,9 +23,6 @@ pub record Listing (cap : ℕ) (start rest vs : List ℕ) (k : ℕ) : Type 0 whe
   pub low : Lows (take k vs)
   pub is : start ≡ spaced (take k vs) ++ rest
   pub only : (ns x : List ℕ) → Lows ns → start ≡ spaced ns ++ (41 ∷ x) → Left ns (take k vs) x rest
-
-pub listing_none : (cap : ℕ) (start vs : List ℕ) → length vs ≡ cap → Listing cap start start vs 0
-listing_none cap start vs size = record { few = omega arith; size = size; low = tt; is = refl; only = λ ns x low e. record { more = ns; split = refl; low = low; is = e } }
 
 -- what follows a space is a number, and then a space or the bracket
 pub record Next (ns xs x r : List ℕ) : Type 0 where
@@ -70,13 +67,6 @@ next_of ns xs x r (m ∷ (k ∷ ks)) s l e = record {
 pub next : {cap : ℕ} {start rest vs r : List ℕ} {k : ℕ} → Listing cap start rest vs k → rest ≡ 32 ∷ r → (ns x : List ℕ) → Lows ns → start ≡ spaced ns ++ (41 ∷ x) → Next ns (take k vs) x r
 next {cap} {start} {rest} {vs} {r} {k} h e ns x low is =
     let o = h.only ns x low is in next_of ns (take k vs) x r o.more o.split o.low (sym e ∙ o.is)
-
--- more than k numbers, where a space follows
-pub over : {cap : ℕ} {start rest vs r : List ℕ} {k : ℕ} → Listing cap start rest vs k → rest ≡ 32 ∷ r → (ns x : List ℕ) → Lows ns → start ≡ spaced ns ++ (41 ∷ x) → k < length ns
-over {cap} {start} {rest} {vs} {r} {k} h e ns x low is =
-    let n = next h e ns x low is in
-    let a : length ns ≡ length (take k vs) + suc (length n.more) = ap length n.split ∙ length-append (take k vs) (n.m ∷ n.more) in
-    omega (arith, length-take-le k vs (omega (arith, h.few, h.size)))
 
 -- just k numbers, where none does
 ended_of : (ns xs x rest : List ℕ) (more : List ℕ) → ns ≡ xs ++ more → rest ≡ spaced more ++ (41 ∷ x) → ((r : List ℕ) → rest ≡ 32 ∷ r → ⊥) → (ns ≡ xs) × (rest ≡ 41 ∷ x)
@@ -136,9 +126,6 @@ last_spaced n (m ∷ ns) x =
 of_last : {count : ℕ} {start : List ℕ} (ns x : List ℕ) → LowEach count ns → 0 < count → start ≡ last_text ns x → 32 ∷ start ≡ spaced ns ++ (41 ∷ x)
 of_last [] x low more e = absurd (omega (arith, low.0))
 of_last (n ∷ ns) x low more e = ap (λ (z : List ℕ). 32 ∷ z) e ∙ last_spaced n ns x
-
-pub last_none : (count : ℕ) (start : List ℕ) → Listing count (32 ∷ start) (spaced_left 0 start) (replicate count 0) 0
-last_none count start = listing_none count (32 ∷ start) (replicate count 0) (length-replicate count 0)
 
 pub last_more :
     {count : ℕ} {start rest vs r q : List ℕ} {k n : ℕ} → Listing count (32 ∷ start) rest vs k → k < count → rest ≡ 32 ∷ r → Numbered n q r → OnlyNumber n q r

@@ -19,15 +19,14 @@ pub digits_low : (ds : List ℕ) → Each 48 57 ds → length ds ≤ 7 → digit
 digits_low ds each few = digits_value_short own ds 7 each few
 
 -- the digits before the i-th, and with it
-pub digits_below : (ds : List ℕ) (i n : ℕ) → Each 48 57 ds → length ds ≤ 7 → i < length ds → n ≡ digits_value 10 (take i ds) → n < 10 ^ 7
-digits_below ds i n each few l is =
+pub digits_below : (ds : List ℕ) (i : ℕ) → Each 48 57 ds → length ds ≤ 7 → i < length ds → digits_value 10 (take i ds) < 10 ^ 7
+digits_below ds i each few l =
     let len : length (take i ds) ≡ i = length-take-le i ds (omega arith) in
-    let low : digits_value 10 (take i ds) < 10 ^ 7 =
-    digits_low (take i ds) (λ k m. let j : k < i = omega arith in subst (IsInRange 48 57) (sym (get_or-take i ds k 0 j)) (each k (omega arith))) (omega arith) in
-    omega arith
+    let digits : Each 48 57 (take i ds) = λ k m. let j : k < i = omega arith in subst (IsInRange 48 57) (sym (get_or-take i ds k 0 j)) (each k (omega arith)) in
+    digits_low (take i ds) digits (omega arith)
 
-pub digits_more : (ds : List ℕ) (i n d : ℕ) → Each 48 57 ds → i < length ds → n ≡ digits_value 10 (take i ds) → d ≡ get_or ds i 0 - 48 → n * 10 + d ≡ digits_value 10 (take (i + 1) ds)
-digits_more ds i n d each l is digit =
+pub digits_more : (ds : List ℕ) (i : ℕ) → Each 48 57 ds → i < length ds → digits_value 10 (take (i + 1) ds) ≡ digits_value 10 (take i ds) * 10 + (get_or ds i 0 - 48)
+digits_more ds i each l =
     let here : IsInRange 48 57 (get_or ds i 0) = each i l in
     let v : digit_value (get_or ds i 0) ≡ get_or ds i 0 - 48 = grind (arith, nat_tests) in
     omega (arith, digits_value_more 10 ds i l)

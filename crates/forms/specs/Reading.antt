@@ -2,6 +2,7 @@
 use Rattle.std.specs.Prelude.{◌≡◌, ℕ, List, Result, MatchResult, ◌≢◌}
 use Rattle.forms.specs.declared.cursor.Cursor.{Cursor}
 use Rattle.forms.specs.declared.cursor.FormFault.{FormFault}
+use Rattle.forms.specs.declared.cursor.FormFault.TheVariants.{UnknownWord}
 
 -- what is left to read
 abbrev pub left : Cursor → List ℕ
@@ -26,3 +27,7 @@ Unread {A} Fit W text = (b : A) (x : List ℕ) → Fit b → text ≢ W b x
 -- a reader that goes from c to d either read a value or found none
 abbrev pub Reads : {A : Type 0} → (A → Type 0) → (A → List ℕ → List ℕ) → Cursor → Cursor → Result A FormFault → Type 0
 Reads Fit W c d r = MatchResult r (Reading Fit W (left c) (left d)) (λ _. Unread Fit W (left c))
+
+-- `word` is the word of the value that was read, or of none
+abbrev pub ReadsWord : {K : Type 0} → (K → List ℕ) → List ℕ → Result K FormFault → Type 0
+ReadsWord {K} W word r = MatchResult r (λ k. word ≡ W k) (λ e. (e ≡ UnknownWord) × ((k : K) → word ≢ W k))

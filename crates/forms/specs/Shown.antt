@@ -12,9 +12,11 @@ text_of bytes = if is_utf8 bytes then bytes else []
 
 -- the core of a station
 abbrev pub core_line : CoreForm → List ℕ
-core_line (Machine places minutes) = codes "machine of " ++ (decimal places ++ (codes " places, " ++ (decimal minutes ++ codes " minutes")))
+core_line (Machine places minutes) =
+    codes "machine of " ++ (decimal places ++ (codes " places, " ++ (decimal minutes ++ codes " minutes")))
 core_line (Oven cycle places bake) =
-    codes "oven of " ++ (decimal places ++ (codes " places, cycle " ++ (decimal cycle ++ (codes ", bake " ++ decimal bake))))
+    codes "oven of "
+    ++ (decimal places ++ (codes " places, cycle " ++ (decimal cycle ++ (codes ", bake " ++ decimal bake))))
 
 -- the minutes of the move, if there is one
 abbrev pub travel_shown : Option ℕ → List ℕ
@@ -30,4 +32,5 @@ week_shown (Some name) = codes ", week " ++ text_of name
 abbrev pub stage_shown : StageForm → List ℕ
 stage_shown s =
     codes "station "
-    ++ (text_of s.name.now ++ (codes ": " ++ (core_line s.core ++ (travel_shown s.travel ++ week_shown (option_map (λ x. x.now) s.week)))))
+    ++ (text_of s.name.now
+    ++ (codes ": " ++ (core_line s.core ++ (travel_shown s.travel ++ week_shown (option_map (λ x. x.now) s.week)))))

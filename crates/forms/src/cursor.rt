@@ -119,7 +119,8 @@ impl<'f> Cursor<'f> {
 
     // The last bracket of a line, and nothing after it.
     pub fn finish(&mut self) -> Result<(), FormFault>
-        ensures { MatchResult result (λ _. left self.old ≡ codes ")") (λ e. (e ≡ FormFault.Layout) × (left self.old ≡ codes ")" → ⊥)) }
+        ensures { MatchResult result (λ _. left self.old ≡ codes ")")
+            (λ e. (e ≡ FormFault.Layout) × (left self.old ≡ codes ")" → ⊥)) }
     {
         self.expect(')')?;
         self.end()

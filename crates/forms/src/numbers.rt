@@ -12,6 +12,7 @@ fn digits(text: &[u8]) -> usize
 }
 
 // The number that the digits write.
+#[tactic(auto, using(crate::proofs::Read::digits_below, crate::proofs::Read::digits_more))]
 fn value(digits: &[u8]) -> u32
     requires few { length digits.now ≤ 7 }
     requires digits { Each 48 57 digits.now }
@@ -25,6 +26,7 @@ fn value(digits: &[u8]) -> u32
 }
 
 // The number that `text` begins with, of 1 to 7 digits and with no needless 0 in front, and what follows it.
+#[tactic(auto, using(crate::proofs::Read::digits_plain))]
 pub fn number<'f>(text: &'f [u8]) -> Option<(u32, &'f [u8])>
     ensures { MatchOption result (Numberless text.now)
         (λ p. Numbered p.0 p.1.now text.now × OnlyNumber p.0 p.1.now text.now) }

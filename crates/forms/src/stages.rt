@@ -1,11 +1,9 @@
 ghost use Rattle.std.specs.Prelude.{Some, ◌≡◌, ℕ, List, ◌++◌, codes, Option as OptionOf, MatchResult, ◌≢◌};
 ghost use Rattle.std.specs.Option.{option_map};
 ghost use Rattle.forms.specs.Forms.{Word};
-ghost use Rattle.forms.specs.Reading.{left, Says, SaysNothing, Reads};
+ghost use Rattle.forms.specs.Reading.{left, ReadsWord, Says, SaysNothing, Reads};
 ghost use Rattle.forms.specs.Stages.{core_word, last_text, LowEach, core_text, LowCore, piece_text, travel_text, LowTravel, Moveless, week_text, WordWeek, stage_said, StageFits, stage_rest};
 ghost use Rattle.forms.specs.Shown.{text_of, core_line, stage_shown};
-ghost use Rattle.forms.specs.declared.cursor.FormFault.TheVariants.{UnknownWord};
-ghost use Rattle.forms.specs.declared.stages.CoreWord.{CoreWord as CoreWordType};
 
 use crate::cursor::{Cursor, FormFault};
 use std::fmt;
@@ -83,7 +81,7 @@ enum CoreWord {
 impl TryFrom<&[u8]> for CoreWord {
     type Error = FormFault;
 
-    ghost try_from_gives = { λ word r. MatchResult r (λ k. word.now ≡ core_word k) (λ e. (e ≡ UnknownWord) × ((k : CoreWordType) → word.now ≢ core_word k)) };
+    ghost try_from_gives = { λ word r. ReadsWord core_word word.now r };
 
     fn try_from(word: &[u8]) -> Result<CoreWord, FormFault> {
         match word {
@@ -150,7 +148,8 @@ impl<'f> Cursor<'f> {
     fn travel(&mut self) -> Result<Option<u32>, FormFault>
         ensures { MatchResult result
             (λ t. LowTravel t × (left self.old ≡ travel_text t (left self.new))
-            × ((u : OptionOf ℕ) (x : List ℕ) → LowTravel u → Moveless x → left self.old ≡ travel_text u x → (t ≡ u) × (left self.new ≡ x)))
+            × ((u : OptionOf ℕ) (x : List ℕ) → LowTravel u → Moveless x
+            → left self.old ≡ travel_text u x → (t ≡ u) × (left self.new ≡ x)))
             (λ _. (u : OptionOf ℕ) (x : List ℕ) → LowTravel u → Moveless x → left self.old ≢ travel_text u x) }
     {
         let Ok(after) = self.piece(b"move") else {
@@ -163,10 +162,12 @@ impl<'f> Cursor<'f> {
 
     // The word of `(week NAME)`, if that is next. A bracket follows.
     fn week(&mut self) -> Result<Option<&'f [u8]>, FormFault>
-        ensures { MatchResult result
-            (λ w. WordWeek (option_map (λ x. x.now) w) × (left self.old ≡ week_text (option_map (λ x. x.now) w) (left self.new))
-            × ((u : OptionOf (List ℕ)) (x : List ℕ) → WordWeek u → left self.old ≡ week_text u (codes ")" ++ x) → (option_map (λ x. x.now) w ≡ u) × (left self.new ≡ codes ")" ++ x)))
-            (λ _. (u : OptionOf (List ℕ)) (x : List ℕ) → WordWeek u → left self.old ≡ week_text u (codes ")" ++ x) → ⊥) }
+        ensures { let bracketed = λ (x : List ℕ). codes ")" ++ x in MatchResult result
+            (λ w. let name = option_map (λ x. x.now) w in
+            WordWeek name × (left self.old ≡ week_text name (left self.new))
+            × ((u : OptionOf (List ℕ)) (x : List ℕ) → WordWeek u → left self.old ≡ week_text u (bracketed x)
+            → (name ≡ u) × (left self.new ≡ bracketed x)))
+            (λ _. (u : OptionOf (List ℕ)) (x : List ℕ) → WordWeek u → left self.old ≢ week_text u (bracketed x)) }
     {
         let Ok(after) = self.piece(b"week") else {
             return Ok(None);
@@ -179,7 +180,8 @@ impl<'f> Cursor<'f> {
 
     // What follows the word `stage`, to the end of the line.
     pub fn stage(&mut self) -> Result<StageForm<'f>, FormFault>
-        ensures { MatchResult result (λ s. Says StageFits stage_rest (left self.old) (stage_said s)) (λ _. SaysNothing StageFits stage_rest (left self.old)) }
+        ensures { MatchResult result (λ s. Says StageFits stage_rest (left self.old) (stage_said s))
+            (λ _. SaysNothing StageFits stage_rest (left self.old)) }
     {
         self.expect(' ')?;
         let name = self.word()?;

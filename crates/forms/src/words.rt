@@ -11,6 +11,7 @@ fn letters(text: &[u8]) -> usize
 }
 
 // The word that `text` begins with, of 1 to 12 small letters, and what follows it.
+#[tactic(auto, using(crate::proofs::Spelled::no_word))]
 pub fn word<'f>(text: &'f [u8]) -> Option<(&'f [u8], &'f [u8])>
     ensures { MatchOption result (Wordless text.now)
         (λ p. Worded p.0.now p.1.now text.now × OnlyWord p.0.now p.1.now text.now) }

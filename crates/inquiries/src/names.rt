@@ -1,7 +1,6 @@
-ghost use Rattle.std.specs.Prelude.{◌≡◌, Some, MatchResult, ◌≢◌};
-ghost use Rattle.forms.specs.declared.cursor.FormFault.TheVariants.{UnknownWord};
+ghost use Rattle.std.specs.Prelude.{Some};
+ghost use Rattle.forms.specs.Reading.{ReadsWord};
 ghost use Rattle.inquiries.specs.Names.{control_name};
-ghost use Rattle.inquiries.specs.declared.names.ControlName.{ControlName as ControlNameType};
 
 use forms::cursor::FormFault;
 use std::fmt;
@@ -18,7 +17,7 @@ pub enum ControlName {
 impl TryFrom<&[u8]> for ControlName {
     type Error = FormFault;
 
-    ghost try_from_gives = { λ word r. MatchResult r (λ k. word.now ≡ control_name k) (λ e. (e ≡ UnknownWord) × ((k : ControlNameType) → word.now ≢ control_name k)) };
+    ghost try_from_gives = { λ word r. ReadsWord control_name word.now r };
 
     fn try_from(word: &[u8]) -> Result<ControlName, FormFault> {
         match word {

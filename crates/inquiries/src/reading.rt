@@ -67,8 +67,10 @@ fn stages_line(cursor: &mut Cursor<'_>) -> Result<u32, FormFault>
 
 // The counts that follow, each after a space. A bracket follows.
 fn spaced_counts(cursor: &mut Cursor<'_>) -> Result<Counts, FormFault>
-    ensures { MatchResult result (λ c. CountsFit (counts_of c) × (left cursor.old ≡ spaced (counts_of c) ++ left cursor.new)
-        × ((ns x : List ℕ) → CountsFit ns → left cursor.old ≡ spaced ns ++ (41 ∷ x) → (counts_of c ≡ ns) × (left cursor.new ≡ 41 ∷ x)))
+    ensures { MatchResult result (λ c.
+        CountsFit (counts_of c) × (left cursor.old ≡ spaced (counts_of c) ++ left cursor.new)
+        × ((ns x : List ℕ) → CountsFit ns → left cursor.old ≡ spaced ns ++ (41 ∷ x)
+        → (counts_of c ≡ ns) × (left cursor.new ≡ 41 ∷ x)))
         (λ _. (ns x : List ℕ) → CountsFit ns → left cursor.old ≢ spaced ns ++ (41 ∷ x)) }
 {
     let mut values = [0; 16];
@@ -88,7 +90,8 @@ fn spaced_counts(cursor: &mut Cursor<'_>) -> Result<Counts, FormFault>
 
 // The counts of a line `(cards NUMBER ..)`.
 fn cards_line(cursor: &mut Cursor<'_>) -> Result<Counts, FormFault>
-    ensures { MatchResult result (λ c. Reading CountsFit cards_text (left cursor.old) (left cursor.new) (counts_of c)) (λ _. Unread CountsFit cards_text (left cursor.old)) }
+    ensures { MatchResult result (λ c. Reading CountsFit cards_text (left cursor.old) (left cursor.new) (counts_of c))
+        (λ _. Unread CountsFit cards_text (left cursor.old)) }
 {
     cursor.opening(b"cards")?;
     let counts = spaced_counts(cursor)?;
@@ -105,7 +108,8 @@ fn at_line<T: Drop>(line: u32, read: Result<T, FormFault>) -> Result<T, InquiryF
 
 // The inquiry that `text` is, line by line.
 pub fn read_inquiry(text: &[u8]) -> Result<Inquiry, InquiryFault>
-    ensures { MatchResult result (λ i. Says InquiryFits inquiry_written text.now (inquiry_said i)) (λ e. SaysNothing InquiryFits inquiry_written text.now × Stopped e.line text.now) }
+    ensures { MatchResult result (λ i. Says InquiryFits inquiry_written text.now (inquiry_said i))
+        (λ e. SaysNothing InquiryFits inquiry_written text.now × Stopped e.line text.now) }
 {
     let mut cursor = Cursor { rest: text };
     let control = at_line(1, control_line(&mut cursor))?;

@@ -1,4 +1,4 @@
-use Rattle.std.specs.Prelude.{◌≡◌, ℕ, List, [], Some, None, Option, ◌≢◌}
+use Rattle.std.specs.Prelude.{◌≡◌, ℕ, List, Some, None, Option, ◌≢◌}
 use Rattle.std.specs.Option.{option_or, unwrap_or}
 use Rattle.calendar.specs.House.{house_name, house_shifts}
 use Rattle.calendar.specs.Settings.{Told, told, first_off}
@@ -8,21 +8,21 @@ use Rattle.calendar.specs.declared.settings.Piece.TheVariants as pieces
 use Rattle.calendar.specs.declared.shifts.Shift.{Shift}
 use Rattle.forms.specs.declared.stages.CoreForm.{CoreForm}
 use Rattle.forms.specs.declared.stages.CoreForm.TheVariants.{Machine, Oven}
+use Rattle.stations.specs.Fresh.{machine_refusal, fresh_machine, oven_refusal, fresh_oven}
 use Rattle.stations.specs.Layer.{layered}
-use Rattle.stations.specs.Pieces.{machine_settings, oven_settings, move_settings, moving, in_shifts}
+use Rattle.stations.specs.Pieces.{move_settings, moving, in_shifts}
 use Rattle.stations.specs.Rule.{Meaning, freshened}
-use Rattle.stations.specs.Serving.{serving, machine, oven}
 use Rattle.jobs.specs.declared.making.StageFault.{StageFault}
 use Rattle.jobs.specs.declared.making.StageFault.TheVariants.{UnknownWeek, Setting}
 
 -- The setting at fault of a core, if there is one, and what the core means when it is made.
 abbrev pub core_refusal : CoreForm → Option Told
-core_refusal (Machine places minutes) = first_off pieces.Machine 1 (machine_settings places minutes)
-core_refusal (Oven cycle places bake) = first_off pieces.Oven 1 (oven_settings cycle places bake)
+core_refusal (Machine places minutes) = machine_refusal places minutes
+core_refusal (Oven cycle places bake) = oven_refusal cycle places bake
 
 abbrev pub core_meaning : CoreForm → Meaning
-core_meaning (Machine places minutes) = serving places (machine minutes) [] None
-core_meaning (Oven cycle places bake) = serving places (oven cycle bake) [] None
+core_meaning (Machine places minutes) = fresh_machine places minutes
+core_meaning (Oven cycle places bake) = fresh_oven cycle places bake
 
 -- A stage without a move has a way of no minutes.
 abbrev pub travel_minutes : Option ℕ → ℕ

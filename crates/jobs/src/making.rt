@@ -34,8 +34,8 @@ impl From<SettingFault> for StageFault {
 impl From<NoHouseWeek> for StageFault {
     ghost from_gives = { λ _ r. r ≡ UnknownWeek };
 
-    fn from(_none: NoHouseWeek) -> StageFault {
-        StageFault::UnknownWeek
+    fn from(_none: NoHouseWeek) -> Self {
+        Self::UnknownWeek
     }
 }
 
@@ -53,7 +53,8 @@ impl StageFault {
 
 // The week of that name. A stage that names none is always open.
 fn week_named(name: Option<&[u8]>) -> Result<Week, NoHouseWeek>
-    ensures { let named = option_map (λ x. x.now) name.entry in MatchResult result (λ w. Weekly named (shifts_of w)) (λ _. Unnamed named) }
+    ensures { let named = option_map (λ x. x.now) name.entry in
+        MatchResult result (λ w. Weekly named (shifts_of w)) (λ _. Unnamed named) }
 {
     match name {
         None => Ok(Week::all()),
@@ -75,10 +76,13 @@ fn core_of(form: CoreForm) -> Result<Core, SettingFault>
     }
 }
 
-// The fresh station that a stage's line describes, or the first fault: the name of the week is tried first, then the settings
-// as they stand.
+// The fresh station that a stage's line describes, or the first fault: the name of the week is tried first, then the
+// settings as they stand.
 pub fn make_station(form: StageForm<'_>) -> Result<Pile, StageFault>
-    ensures { let week = option_map (λ x. x.now) form.entry.week in MatchResult result (λ p. Made form.entry.core form.entry.travel week (⟦<Pile as Station>⟧.meaning p)) (MakeRefused form.entry.core form.entry.travel week) }
+    ensures { let week = option_map (λ x. x.now) form.entry.week in
+        MatchResult result
+        (λ p. Made form.entry.core form.entry.travel week (⟦<Pile as Station>⟧.meaning p))
+        (MakeRefused form.entry.core form.entry.travel week) }
 {
     let week = week_named(form.week)?;
     let core = core_of(form.core)?;

@@ -1,12 +1,12 @@
 use Rattle.std.specs.Prelude.{◌≡◌, ℕ, zero, suc, ◌<◌, ◌⊎◌, List, [], ◌∷◌, ◌++◌, map, length, take, Result}
+use Rattle.std.specs.List.{AllByRecursion}
 use Rattle.stations.specs.Rule.{Meaning, Lawful}
 use Rattle.stations.specs.Load.{Loaded}
 use Rattle.stations.specs.declared.loading.LoadFault.{LoadFault}
 
 -- Each station of the row is lawful.
 abbrev pub AllLawful : List Meaning → Type 0
-AllLawful [] = Unit {0}
-AllLawful (m ∷ ms) = Lawful m.fresh × AllLawful ms
+AllLawful = AllByRecursion (λ m. Lawful m.fresh)
 
 -- Station n of the row, counted from 1, is loaded with a and answers r, and no other is touched.
 abbrev pub LoadedAt : List Meaning → ℕ → ℕ → Result ℕ LoadFault → List Meaning → Type 0

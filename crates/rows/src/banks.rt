@@ -42,7 +42,7 @@ impl<S: Station> Row for Bank<S> {
             .map_err(|fault| RowFault::Refused(stage, fault))
     }
 
-    #[tactic(auto, using(crate::specs::Numbering::fresh_more, crate::specs::Numbering::banked_fresh))]
+    #[tactic(auto, using(crate::proofs::Numbering::fresh_more, crate::proofs::Numbering::banked_fresh))]
     fn fresh(&mut self) {
         for station in self.stations.iter_mut() {
             station.fresh();

@@ -5,7 +5,8 @@ ghost use Rattle.rows.specs.Numbering.{joined_lawful, joined_few};
 use crate::loading::{Row, RowFault};
 use stations::numbers::StageNo;
 
-// The stations of two rows in one, those of the second numbered after those of the first. None past number 64 is part of it.
+// The stations of two rows in one, those of the second numbered after those of the first. None past number 64 is part
+// of it.
 #[derive(Drop)]
 pub struct Joined<A, B> {
     first: A,
@@ -15,7 +16,8 @@ pub struct Joined<A, B> {
 impl<A: Row, B: Row> Joined<A, B> {
     // The two rows joined, as they are.
     pub fn new(first: A, second: B) -> Joined<A, B>
-        ensures { ⟦<Joined<A, B> as Row>⟧.meanings result ≡ joined (A.Row.meanings first) (B.Row.meanings second) }
+        ensures { ⟦<Joined<A, B> as Row>⟧.meanings result
+            ≡ joined (A.Row.meanings first) (B.Row.meanings second) }
     {
         Joined { first, second }
     }
@@ -24,7 +26,8 @@ impl<A: Row, B: Row> Joined<A, B> {
 impl<A: Row, B: Row> Row for Joined<A, B> {
     ghost meanings = { λ r. joined (A.Row.meanings r.first) (B.Row.meanings r.second) };
 
-    ghost lawful = { λ r. joined_lawful (A.Row.meanings r.first) (B.Row.meanings r.second) (A.Row.lawful r.first) (B.Row.lawful r.second) };
+    ghost lawful = { λ r.
+        joined_lawful (A.Row.meanings r.first) (B.Row.meanings r.second) (A.Row.lawful r.first) (B.Row.lawful r.second) };
 
     ghost few = { λ r. joined_few (A.Row.meanings r.first) (B.Row.meanings r.second) };
 
@@ -33,7 +36,7 @@ impl<A: Row, B: Row> Row for Joined<A, B> {
         (self.first.len() + self.second.len()).min(64)
     }
 
-    #[tactic(auto, using(crate::specs::Numbering::joined_front, crate::specs::Numbering::joined_past))]
+    #[tactic(auto, using(crate::proofs::Numbering::joined_front, crate::proofs::Numbering::joined_past))]
     fn load(&mut self, stage: StageNo, arrival: u32) -> Result<u32, RowFault> {
         let before = self.first.len();
         if stage.0 <= before {
@@ -47,7 +50,7 @@ impl<A: Row, B: Row> Row for Joined<A, B> {
             .map_err(|fault| fault.renumbered(stage))
     }
 
-    #[tactic(auto, using(crate::specs::Numbering::joined_fresh))]
+    #[tactic(auto, using(crate::proofs::Numbering::joined_fresh))]
     fn fresh(&mut self) {
         self.first.fresh();
         self.second.fresh();

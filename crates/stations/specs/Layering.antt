@@ -1,27 +1,25 @@
--- What makes a layer over a lawful station lawful, and its loads exact.
-use Rattle.std.specs.Prelude.{◌≡◌, ℕ, ◌<◌, ◌≤◌, Bool, true, false, cond, ◌||◌, ltb, List, [], ◌∷◌, map, IsErrAnd, Some, None, Ok, Err, Option, Result, nat_lt, refl}
-use Rattle.std.proofs.Common.{sym, ap, ◌∙◌, subst, inl, inr, ⊎_elim, arith}
-use Rattle.std.proofs.Math.Path.{fun_ext}
+-- What makes a layer over a lawful station lawful.
+use Rattle.std.specs.Prelude.{◌≡◌, ℕ, ◌<◌, ◌≤◌, Bool, false, List, [], ◌∷◌, map, None, refl}
+use Rattle.std.proofs.Common.{sym, ap, ◌∙◌, inl, inr, ⊎_elim, arith}
 use Rattle.std.proofs.Math.Decide.{dec_le}
 use Rattle.std.proofs.lemmas.List.{take-map, length-map}
-use Rattle.std.proofs.lemmas.Bool.{lt-ltb, le-ltb, ltb-false, or_from, or_left, or_right}
+use Rattle.std.proofs.lemmas.Bool.Decides.{nat_tests}
 use Rattle.calendar.specs.Clock.{E}
 use Rattle.calendar.specs.WeekOf.{shifts_of}
 use Rattle.calendar.specs.Week.{open_before, time_by}
 use Rattle.calendar.specs.WeekLaw.{Adjoint, Opens}
 use Rattle.calendar.specs.declared.week.Week.{Week}
 use Rattle.calendar.proofs.Weeks.{week_adjoint, week_opens}
-use Rattle.stations.specs.Layer.{Pass, Layer, through, layered}
-use Rattle.stations.specs.Load.{number, refusal, Loaded}
+use Rattle.stations.specs.Layer.{Pass, Layer, through}
+use Rattle.stations.specs.Load.{refusal}
 use Rattle.stations.specs.Pieces.{moving, weekly}
-use Rattle.stations.specs.Rule.{Rule, Meaning, Rising, Below, Later, Lawful, before}
-use Rattle.stations.specs.declared.loading.LoadFault.{LoadFault}
+use Rattle.stations.specs.Rule.{Rule, Rising, Below, Later, Lawful}
 
 lower : (m n : ℕ) (xs : List ℕ) → n ≤ m → Rising m xs → Rising n xs
 lower m n [] h r = tt
 lower m n (x ∷ xs) h r = (omega arith, r.1, r.2)
 
-rising_map :
+pub rising_map :
     (f : ℕ → ℕ) → ((a b : ℕ) → a ≤ b → f a ≤ f b) → ((a : ℕ) → a ≤ E → f a ≤ E) → (low : ℕ) (arrivals : List ℕ)
     → Rising low arrivals → Rising (f low) (map f arrivals)
 rising_map f up within low [] h = tt
@@ -57,73 +55,12 @@ through_lawful p L rule R =
     down : (arrivals : List ℕ) → Rising 0 arrivals → Rising 0 (map p.down arrivals)
     down arrivals h = lower (p.down 0) 0 (map p.down arrivals) (omega arith) (rising_map p.down L.down_rises L.down_in 0 arrivals h)
 
--- what a layer refuses after a load of a is what comes before a
-collapse : (f : ℕ → ℕ) → ((a b : ℕ) → a ≤ b → f a ≤ f b) → (a : ℕ) → ◌≡◌ {A = ℕ → Bool} (λ b. nat_lt b a || nat_lt (f b) (f a)) (λ b. ltb b a)
-collapse f up a = fun_ext (λ b. one b (dec_le a b))
-  where
-    one : (b : ℕ) → Dec (a ≤ b) → (nat_lt b a || nat_lt (f b) (f a)) ≡ nat_lt b a
-    one b (yes h) = or_from _ _ (le-ltb b a h) (le-ltb (f b) (f a) (up a b h)) ∙ sym (le-ltb b a h)
-    one b (no h) = let t : ltb b a ≡ true = lt-ltb b a (omega arith) in or_left _ _ t ∙ sym t
-
--- the number of a refusal, by its two conditions
-abbrev numbered : Bool → Bool → Option ℕ
-numbered past early = cond past (Some 3) (cond early (Some 4) None)
-
 -- what a load that is granted says of its arrival, and the other way round
 pub granted : (early : ℕ → Bool) (a : ℕ) → refusal early a ≡ None → (a ≤ E) × (early a ≡ false)
-granted early a h = let p = parts (nat_lt E a) (early a) h in (ltb-false E a p.0, p.1)
-  where
-    parts : (p q : Bool) → numbered p q ≡ None → (p ≡ false) × (q ≡ false)
-    parts true q e = let z : ◌≡◌ {A = ℕ} 0 1 = cc in absurd (omega arith)
-    parts false true e = let z : ◌≡◌ {A = ℕ} 0 1 = cc in absurd (omega arith)
-    parts false false e = (refl, refl)
+granted early a h = (grind (arith, nat_tests), grind (arith, nat_tests))
 
 pub grants : (early : ℕ → Bool) (a : ℕ) → a ≤ E → early a ≡ false → refusal early a ≡ None
-grants early a h e =
-    ap (λ p. numbered p (early a)) (le-ltb E a h) ∙ ap (numbered false) e
-
--- a load on the clock is refused as too early, or not at all
-pub too_early : (early : ℕ → Bool) (a n : ℕ) → a ≤ E → refusal early a ≡ Some n → (early a ≡ true) × (n ≡ 4)
-too_early early a n h e =
-    go (early a) (sym (ap (λ p. numbered p (early a)) (le-ltb E a h)) ∙ e)
-  where
-    go : (q : Bool) → numbered false q ≡ Some n → (q ≡ true) × (n ≡ 4)
-    go true k = (refl, cc)
-    go false k = let z : ◌≡◌ {A = ℕ} 0 1 = cc in absurd (omega arith)
-
-pub refuses_early : (early : ℕ → Bool) (a : ℕ) → a ≤ E → early a ≡ true → refusal early a ≡ Some 4
-refuses_early early a h e =
-    ap (λ p. numbered p (early a)) (le-ltb E a h) ∙ ap (numbered false) e
-
-pub layer_loads :
-    (p : Pass) → Layer p → (own : Option ℕ) (m m' : Meaning) (a b d : ℕ) → refusal (before own) a ≡ None → b ≡ p.down a
-    → Loaded m b (Ok d) m' → Loaded (layered p own m) a (Ok (p.up d)) (layered p (Some a) m')
-layer_loads p L own m m' a b d h e l' =
-    let P : ℕ → Type 0 = λ n. Loaded m n (Ok d) m' in
-    let l : Loaded m (p.down a) (Ok d) m' = subst P e l' in
-    let ok = granted (before own) a h in (
-      grants (layered p own m).early a ok.0 (or_from _ _ ok.1 (granted m.early (p.down a) l.0).1),
-      ap {B = ℕ → Bool} (λ (t : ℕ → Bool) b. nat_lt b a || t (p.down b)) l.1 ∙ collapse p.down L.down_rises a,
-      ap (through p) l.2,
-      λ arrivals r. ap (map p.up) (l.3 (map p.down arrivals) (rising_map p.down L.down_rises L.down_in a arrivals r)),
-    )
-
--- the exit of a `?` after a refusal
-pub exits :
-    (m m' : Meaning) (a : ℕ) (r : Result ℕ LoadFault) (e : LoadFault) → IsErrAnd r (λ y. y ≡ e) → Loaded m a (Err e) m' → Loaded m a r m'
-exits m m' a (Ok d) e h l = absurd h
-exits m m' a (Err y) e h l = let P : LoadFault → Type 0 = λ z. Loaded m a (Err z) m' in subst P (sym h) l
-
--- the fault of the station below passes up
-pub layer_passes :
-    (p : Pass) → Layer p → (own : Option ℕ) (m m' : Meaning) (a b : ℕ) (r : Result ℕ LoadFault) (e : LoadFault)
-    → refusal (before own) a ≡ None → b ≡ p.down a → Loaded m b (Err e) m' → IsErrAnd r (λ y. y ≡ e)
-    → Loaded (layered p own m) a r (layered p own m')
-layer_passes p L own m m' a b r e h is l x =
-    let ok = granted (before own) a h in
-    let k = too_early m.early (p.down a) (number e) (L.down_in a ok.0) (ap (refusal m.early) (sym is) ∙ l.0) in
-    exits _ _ a r e x
-    (refuses_early (layered p own m).early a ok.0 (or_right (before own a) _ k.0) ∙ ap {B = Option ℕ} Some (sym k.1), ap (layered p own) l.1)
+grants early a h e = grind (arith, nat_tests)
 
 pub move_layer : (t : ℕ) → Layer (moving t)
 move_layer t =

@@ -6,6 +6,7 @@ pub mod Serving
 pub mod ServingLaw
 pub mod Pieces
 pub mod ByHand
+pub mod Fresh
 pub mod Cores
 pub mod Serves
 pub mod Layering

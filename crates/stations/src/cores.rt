@@ -1,9 +1,7 @@
-ghost use Rattle.std.specs.Prelude.{◌≡◌, [], None};
-ghost use Rattle.calendar.specs.Settings.{first_off, Makes};
-ghost use Rattle.calendar.specs.declared.settings.Piece.TheVariants as pieces;
+ghost use Rattle.std.specs.Prelude.{◌≡◌};
+ghost use Rattle.calendar.specs.Settings.{Makes};
 ghost use Rattle.stations.specs.Cores.{core_pace};
-ghost use Rattle.stations.specs.Pieces.{machine_settings, oven_settings};
-ghost use Rattle.stations.specs.Serving.{serving, machine, oven};
+ghost use Rattle.stations.specs.Fresh.{machine_refusal, fresh_machine, oven_refusal, fresh_oven};
 ghost use Rattle.stations.specs.declared.cores.CoreWork.TheVariants.{Machine, Oven};
 ghost use Rattle.stations.specs.Serves.{machine_steady, oven_steady};
 
@@ -56,14 +54,16 @@ pub type Core = Served<CoreWork>;
 impl Served<CoreWork> {
     // A fresh machine, or which setting is off its range.
     pub fn machine(places: u32, minutes: u32) -> Result<Core, SettingFault>
-        ensures { Makes (first_off pieces.Machine 1 (machine_settings places minutes)) (λ c. ⟦<Core as Station>⟧.meaning c ≡ serving places (machine minutes) [] None) result }
+        ensures { Makes (machine_refusal places minutes)
+            (λ c. ⟦<Core as Station>⟧.meaning c ≡ fresh_machine places minutes) result }
     {
         Ok(Machine::new(places, minutes)?.map_work(CoreWork::Machine))
     }
 
     // A fresh oven, or which setting is off its range.
     pub fn oven(cycle: u32, places: u32, bake: u32) -> Result<Core, SettingFault>
-        ensures { Makes (first_off pieces.Oven 1 (oven_settings cycle places bake)) (λ c. ⟦<Core as Station>⟧.meaning c ≡ serving places (oven cycle bake) [] None) result }
+        ensures { Makes (oven_refusal cycle places bake)
+            (λ c. ⟦<Core as Station>⟧.meaning c ≡ fresh_oven cycle places bake) result }
     {
         Ok(Oven::new(cycle, places, bake)?.map_work(CoreWork::Oven))
     }

@@ -31,7 +31,8 @@ pub struct Over<P, S> {
 impl<P: Through, S: Station> Over<P, S> {
     // The layer over the station, which is made fresh.
     pub fn new(by: P, mut below: S) -> Over<P, S>
-        ensures { ⟦<Over<P, S> as Station>⟧.meaning result ≡ freshened (layered (P.Through.pass by) None (S.Station.meaning below)) }
+        ensures { ⟦<Over<P, S> as Station>⟧.meaning result
+            ≡ freshened (layered (P.Through.pass by) None (S.Station.meaning below)) }
     {
         below.fresh();
         Over {
@@ -49,7 +50,7 @@ impl<P: Through, S: Station> Station for Over<P, S> {
         through_lawful (P.Through.pass s.by) (P.Through.layer s.by) (S.Station.meaning s.below).fresh
         (S.Station.lawful s.below) };
 
-    #[tactic(auto, using(crate::specs::Layering::layer_passes))]
+    #[tactic(auto, using(crate::proofs::LayerLoads::layer_passes))]
     fn load(&mut self, arrival: u32) -> Result<u32, LoadFault> {
         admit(self.last, arrival)?;
         let departure = self.below.load(self.by.down(arrival))?;

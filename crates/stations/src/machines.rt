@@ -1,9 +1,8 @@
-ghost use Rattle.std.specs.Prelude.{◌≡◌, ◌≤◌, [], None};
-ghost use Rattle.calendar.specs.Settings.{first_off, Makes};
-ghost use Rattle.calendar.specs.declared.settings.Piece.TheVariants as pieces;
+ghost use Rattle.std.specs.Prelude.{◌≡◌, ◌≤◌};
+ghost use Rattle.calendar.specs.Settings.{Makes};
 ghost use Rattle.stations.specs.ByHand.{MachineByHand};
-ghost use Rattle.stations.specs.Pieces.{machine_settings};
-ghost use Rattle.stations.specs.Serving.{serving, served, machine};
+ghost use Rattle.stations.specs.Fresh.{machine_refusal, fresh_machine};
+ghost use Rattle.stations.specs.Serving.{machine};
 ghost use Rattle.stations.specs.ServingLaw.{LeavesInTurn};
 ghost use Rattle.stations.specs.Serves.{machine_steady};
 
@@ -44,7 +43,9 @@ pub type Machine = Served<MachineWork>;
 impl Served<MachineWork> {
     // A fresh machine of 1 to 8 places and 1 to 1,440 minutes, or which setting is off its range.
     pub fn new(places: u32, minutes: u32) -> Result<Machine, SettingFault>
-        ensures { Makes (first_off pieces.Machine 1 (machine_settings places minutes)) (λ m. (⟦<Machine as Station>⟧.meaning m ≡ serving places (machine minutes) [] None) × LeavesInTurn places minutes (served places (machine minutes) [])) result }
+        ensures { Makes (machine_refusal places minutes)
+            (λ m. (⟦<Machine as Station>⟧.meaning m ≡ fresh_machine places minutes)
+            × LeavesInTurn places minutes (fresh_machine places minutes).rule) result }
     {
         on_range(Piece::Machine, 1, places, 1, 8)?;
         on_range(Piece::Machine, 2, minutes, 1, 1440)?;

@@ -1,9 +1,8 @@
-ghost use Rattle.std.specs.Prelude.{◌≡◌, ◌≤◌, [], None};
-ghost use Rattle.calendar.specs.Settings.{first_off, Makes};
-ghost use Rattle.calendar.specs.declared.settings.Piece.TheVariants as pieces;
+ghost use Rattle.std.specs.Prelude.{◌≡◌, ◌≤◌};
+ghost use Rattle.calendar.specs.Settings.{Makes};
 ghost use Rattle.stations.specs.ByHand.{OvenByHand};
-ghost use Rattle.stations.specs.Pieces.{oven_settings};
-ghost use Rattle.stations.specs.Serving.{serving, served, oven};
+ghost use Rattle.stations.specs.Fresh.{oven_refusal, fresh_oven};
+ghost use Rattle.stations.specs.Serving.{oven};
 ghost use Rattle.stations.specs.ServingLaw.{StartsInTurn};
 ghost use Rattle.stations.specs.Serves.{oven_steady};
 
@@ -28,7 +27,7 @@ impl Work for OvenWork {
 
     ghost steady = { λ w. oven_steady w.cycle w.bake w.turns w.bakes };
 
-    #[tactic(auto, using(crate::specs::Serves::next_rounds))]
+    #[tactic(auto, using(crate::proofs::Serves::next_rounds))]
     fn earliest(&self, arrival: u32) -> u32 {
         arrival.min(END).next_multiple_of(self.cycle)
     }
@@ -46,10 +45,12 @@ impl Work for OvenWork {
 pub type Oven = Served<OvenWork>;
 
 impl Served<OvenWork> {
-    // A fresh oven with a cycle of 1 to 1,440 minutes, 1 to 16 places and 1 minute to a cycle of baking, or which setting is
-    // off its range.
+    // A fresh oven with a cycle of 1 to 1,440 minutes, 1 to 16 places and 1 minute to a cycle of baking, or which setting
+    // is off its range.
     pub fn new(cycle: u32, places: u32, bake: u32) -> Result<Oven, SettingFault>
-        ensures { Makes (first_off pieces.Oven 1 (oven_settings cycle places bake)) (λ o. (⟦<Oven as Station>⟧.meaning o ≡ serving places (oven cycle bake) [] None) × StartsInTurn cycle places bake (served places (oven cycle bake) [])) result }
+        ensures { Makes (oven_refusal cycle places bake)
+            (λ o. (⟦<Oven as Station>⟧.meaning o ≡ fresh_oven cycle places bake)
+            × StartsInTurn cycle places bake (fresh_oven cycle places bake).rule) result }
     {
         on_range(Piece::Oven, 1, cycle, 1, 1440)?;
         on_range(Piece::Oven, 2, places, 1, 16)?;

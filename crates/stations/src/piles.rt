@@ -15,7 +15,8 @@ pub type Pile = Move<InWeek<Core>>;
 
 // A station with a week and a way to it, made fresh.
 pub fn piled<S: Station>(station: S, week: Week, way: Way) -> Move<InWeek<S>>
-    ensures { ⟦<Move<InWeek<S>> as Station>⟧.meaning result ≡ freshened (layered (moving way.minutes) None (layered (weekly week) None (S.Station.meaning station))) }
+    ensures { ⟦<Move<InWeek<S>> as Station>⟧.meaning result
+        ≡ freshened (layered (moving way.minutes) None (layered (weekly week) None (S.Station.meaning station))) }
 {
     Over::new(way, Over::new(week, station))
 }

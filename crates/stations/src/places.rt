@@ -24,8 +24,8 @@ impl Places {
         Places { free }
     }
 
-    // Takes the place that was taken as many parts ago as there are places, from `earliest` on, for `turn` minutes, and answers
-    // the start.
+    // Takes the place that was taken as many parts ago as there are places, from `earliest` on, for `turn` minutes, and
+    // answers the start.
     pub fn take(&mut self, earliest: u32, turn: u32) -> u32
         ensures start { result ≡ max earliest (slice_index self.old.free.items (array_vec_len self.old.free - 1)) }
         ensures taken { self.new.free.items ≡ cut (result + turn) ∷ take (array_vec_len self.old.free - 1) self.old.free.items }

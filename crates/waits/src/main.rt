@@ -9,7 +9,7 @@ use controls::extended::Extended;
 use controls::general::General;
 use controls::kanban::Kanban;
 use inquiries::names::ControlName;
-use inquiries::reading::{Inquiry, InquiryFault, read_inquiry};
+use inquiries::reading::{Inquiry, read_inquiry};
 use stations::numbers::StageNo;
 use std::io;
 use std::io::Read;
@@ -64,7 +64,7 @@ fn tell_events<C: Control>(rt: &HostRuntime, control: &C, cards: Cards<'_>) -> i
 fn tell<C: Control>(rt: &HostRuntime, control: &C, inquiry: &Inquiry) -> io::Result<()> {
     let stages = inquiry.stages;
     let counts = inquiry.counts.as_slice();
-    let name = inquiry.control.word();
+    let name = inquiry.control;
     let wanted = C::COUNTS_PER_STAGE as usize * stages as usize;
     let given = counts.len();
     println!(rt; "control {name}: {wanted} places for {stages} stages, {given} counts given")?;
@@ -96,19 +96,14 @@ fn answer(rt: &HostRuntime, inquiry: &Inquiry) -> io::Result<ExitCode> {
     Ok(ExitCode::SUCCESS)
 }
 
-// Tells why a text is no inquiry.
-fn refuse(rt: &HostRuntime, fault: InquiryFault) -> io::Result<ExitCode> {
-    let line = fault.line;
-    let reason = fault.fault.reason();
-    eprintln!(rt; "line {line} refused 16: {reason}")?;
-    Ok(ExitCode::FAILURE)
-}
-
 fn main(rt: HostRuntime) -> io::Result<ExitCode> {
     let mut text = Vec::new(rt.alloc());
     rt.stdin().take(MOST_READ).read_to_end(&mut text)?;
     match read_inquiry(text.as_slice()) {
         Ok(inquiry) => answer(&rt, &inquiry),
-        Err(fault) => refuse(&rt, fault),
+        Err(fault) => {
+            eprintln!(rt; "{fault}")?;
+            Ok(ExitCode::FAILURE)
+        }
     }
 }

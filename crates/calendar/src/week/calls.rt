@@ -149,6 +149,7 @@ fn week_of(shifts: &[Shift]) -> Week
 
 impl Week {
     // The week of these shifts, or why they are none.
+    #[tactic(auto, using(crate::proofs::Refusing::lawful_ordered))]
     pub fn new(shifts: &[Shift]) -> Result<Week, SettingFault>
         ensures { Makes (week_refusal shifts.now) (λ w. shifts_of w ≡ shifts.now) result }
     {

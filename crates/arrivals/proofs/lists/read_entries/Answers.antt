@@ -2,8 +2,7 @@ use Rattle.std.proofs.Common.{◌≡◌, ◌+◌, ◌<◌, length, vec_items, is
 use Rattle.std.proofs.ResultArms.{chosen}
 use Rattle.std.proofs.lemmas.List.{nil_from_length}
 use Rattle.forms.specs.Reading.{left}
-use Rattle.arrivals.specs.Lines.{EntryFits, entry_written}
-use Rattle.arrivals.proofs.Held.{Held, shorter, held_more, held_all, held_bad, kept, changed}
+use Rattle.arrivals.proofs.Held.{Held, held_more, held_all, held_bad, kept, changed}
 use Rattle.arrivals.proofs.lists.read_entries.Goals as goal
 
 pub returns-in_err-entry : goal.returns-in_err-entry
@@ -14,12 +13,6 @@ returns-in_err-entry c =
     let same = p.1 in
     let bad = held_bad {fault = p.0} c.loop-cursor.invariant some place (rw same at c.entry_line.ensures) in
     search (rules, bad, p.2)
-
-pub loop-cursor-smaller : goal.loop-cursor-smaller
-loop-cursor-smaller c =
-    let same = kept _ c.entry_line.result c.map_err.result c.in_ok-entry.entry c.map_err.ensures.cases c.in_ok-entry.was in
-    let read = rw same at c.entry_line.ensures in
-    shorter EntryFits entry_written read
 
 pub loop-cursor-preserved : goal.loop-cursor-preserved
 loop-cursor-preserved c =

@@ -1,11 +1,8 @@
 use Rattle.std.proofs.Common.{◌≡◌, ◌∷◌, rules}
 use Rattle.forms.specs.Reading.{left}
-use Rattle.forms.proofs.Listed.{last_none, last_more, last_unspaced, last_unread, last_read, last_unended, spaced_left, spaced_first, spaced_later}
+use Rattle.forms.proofs.Listed.{last_more, last_unspaced, last_unread, last_read, last_unended, spaced_left, spaced_first, spaced_later}
 use Rattle.forms.proofs.cursor.Cursor.last.Goals as goal
 use Rattle.forms.proofs.cursor.Cursor.last.Goals.{then-at-gt0+in_ok-expect, else-at-gt0}
-
-pub loop-at-init : goal.loop-at-init
-loop-at-init g c = last_none g.row.N _
 
 pub returns-in_err-expect : goal.returns-in_err-expect
 returns-in_err-expect g c = search (rules, last_unspaced c.loop-at.invariant c.if-at-gt0.true c.loop-at-test.true c.in_err-expect.ensures.1)

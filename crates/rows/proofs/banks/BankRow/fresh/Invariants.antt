@@ -1,4 +1,4 @@
-use Rattle.rows.specs.Numbering.{FreshTo}
+use Rattle.rows.proofs.Numbering.{FreshTo}
 use Rattle.rows.proofs.banks.BankRow.fresh.Given as goal
 
 abbrev pub invariant-loop-station : goal.invariant-loop-station

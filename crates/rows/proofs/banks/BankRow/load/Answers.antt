@@ -1,5 +1,6 @@
 use Rattle.std.proofs.Common.{vec_items, arith, rules}
-use Rattle.rows.specs.Numbering.{banked_length, banked_loads, stationed}
+use Rattle.rows.specs.Numbering.{banked_length}
+use Rattle.rows.proofs.Numbering.{banked_loads, stationed}
 use Rattle.rows.proofs.banks.BankRow.load.Goals as goal
 
 pub index_mut-requires : goal.index_mut-requires

@@ -1,5 +1,5 @@
 use Rattle.std.proofs.Common.{◌-◌, arith, rules}
-use Rattle.rows.specs.Numbering.{joined_second}
+use Rattle.rows.proofs.Numbering.{joined_second}
 use Rattle.rows.proofs.joins.JoinedRow.load.Goals as goal
 
 pub returns : goal.returns

@@ -1,5 +1,5 @@
 use Rattle.std.proofs.Common.{sym}
-use Rattle.stations.specs.Layering.{layer_loads}
+use Rattle.stations.proofs.LayerLoads.{layer_loads}
 use Rattle.stations.proofs.layers.OverStation.load.Goals as goal
 
 pub returns : goal.returns

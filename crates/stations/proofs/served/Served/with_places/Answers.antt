@@ -1,4 +1,4 @@
-use Rattle.stations.specs.Serves.{serves_fresh}
+use Rattle.stations.proofs.Serves.{serves_fresh}
 use Rattle.stations.proofs.served.Served.with_places.Goals as goal
 
 pub returns : goal.returns

@@ -1,4 +1,4 @@
-use Rattle.stations.specs.Serves.{serves_fresh}
+use Rattle.stations.proofs.Serves.{serves_fresh}
 use Rattle.arrayvec.specs.ArrayVec.{array_vec_len}
 use Rattle.stations.proofs.served.ServedStation.fresh.Goals as goal
 

@@ -1,4 +1,4 @@
-use Rattle.stations.specs.Serves.{serves}
+use Rattle.stations.proofs.Serves.{serves}
 use Rattle.stations.proofs.served.ServedStation.load.Goals as goal
 
 pub returns : goal.returns
