@@ -2,7 +2,7 @@ ghost use Rattle.std.specs.Prelude.{◌≡◌, ◌≤◌, length, MatchOption};
 ghost use Rattle.std.specs.Str.Parse.{digits_value};
 ghost use Rattle.forms.specs.Forms.{Each, Front, Numbered, OnlyNumber, Numberless};
 
-// How many digits `text` begins with.
+// How many digits `text` begins with. Digits and letters are counted apart: each byte is matched against a literal range.
 fn digits(text: &[u8]) -> usize
     ensures { Front 48 57 text.now result }
 {

@@ -32,10 +32,7 @@ pub struct StageForm<'f> {
 fn text_of(word: &[u8]) -> &str
     ensures { result.now ≡ text_of word.now }
 {
-    match str::from_utf8(word) {
-        Ok(text) => text,
-        Err(_) => "",
-    }
+    str::from_utf8(word).unwrap_or("")
 }
 
 impl fmt::Display for CoreForm {

@@ -42,10 +42,9 @@ impl WaitTable {
     pub(crate) fn waits_of(&self, event: Event) -> &[Option<Wait>]
         ensures { result.now ≡ slice_index_or self.now.told (row_of self.now.stages.count event) [] }
     {
-        match self.told.get(self.stages.row_of(event)) {
-            Some(waits) => waits,
-            None => &[],
-        }
+        self.told
+            .get(self.stages.row_of(event))
+            .map_or(&[], |waits| waits.as_slice())
     }
 
     // Whether all that an event needs of its own part is placed.
