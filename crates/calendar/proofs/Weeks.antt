@@ -1,9 +1,9 @@
 -- The look-ups of a week: counted minute by minute, shift by shift, and back.
-use Rattle.std.proofs.Common.{◌≡◌, ℕ, zero, suc, ◌+◌, ◌-◌, ◌*◌, ◌/◌, ◌%◌, ◌^◌, ◌<◌, ◌≤◌, min, Bool, true, false, cond, ◌&&◌, ◌||◌, ltb, leb, List, [], ◌∷◌, ◌++◌, length, get_or, take, refl, ap, ◌∙◌, mul-le-mul_right, mod-lt, add-mul, mul-le-mul_left, one-mul, div-add-mod', arith}
+use Rattle.std.proofs.Common.{◌≡◌, ℕ, zero, suc, ◌+◌, ◌-◌, ◌*◌, ◌/◌, ◌%◌, ◌^◌, ◌<◌, ◌≤◌, min, true, cond, List, [], ◌∷◌, ◌++◌, length, get_or, take, refl, ap, ◌∙◌, mul-le-mul_right, mod-lt, add-mul, mul-le-mul_left, one-mul, div-add-mod', arith}
 use native.Mathlib.Decide.{dec_le}
-use Rattle.std.proofs.lemmas.Bool.{le-leb, lt-leb, leb-true, ltb-true, lt-ltb, le-ltb, and_parts, and_from, and_left, and_right, or_left}
 use Rattle.std.proofs.Math.Seq.{take-append_seam}
 use Rattle.std.proofs.lemmas.List.Sums.{sum_by-cons}
+use Rattle.std.proofs.lemmas.Bool.Decides.{nat_tests}
 use Rattle.calendar.specs.Week.{ordered, open_at, open_before, opened, total, reached, time_by}
 use Rattle.calendar.specs.WeekLaw.{Adjoint, Opens}
 use Rattle.calendar.specs.WeekOf.{shifts_of}
@@ -18,10 +18,8 @@ Ordered low (s ∷ ss) = (low ≤ s.begin) × (s.begin < s.end) × (s.end ≤ 10
 pub in_order : (low : ℕ) (ss : List Shift) → ordered low ss ≡ true → Ordered low ss
 in_order low [] e = tt
 in_order low (s ∷ ss) e =
-    let a = and_parts (leb low s.begin) _ e in
-    let b = and_parts (ltb s.begin s.end) _ a.1 in
-    let c = and_parts (leb s.end 10080) _ b.1 in
-    (leb-true _ _ a.0, ltb-true _ _ b.0, leb-true _ _ c.0, in_order (suc s.end) ss c.1)
+    let rest : ordered (suc s.end) ss ≡ true = grind (arith, nat_tests) in
+    (grind (arith, nat_tests), grind (arith, nat_tests), grind (arith, nat_tests), in_order (suc s.end) ss rest)
 
 -- one shift more
 opened_cons : (s : Shift) (ss : List Shift) (t : ℕ) → opened (s ∷ ss) t ≡ (min t s.end - s.begin) + opened ss t
@@ -50,10 +48,10 @@ total_le low (s ∷ ss) o = omega (arith, total_cons s ss, total_le (suc s.end) 
 
 -- what reached is at the first shift and past it
 reached_here : (s : Shift) (ss : List Shift) (r : ℕ) → r ≤ s.end - s.begin → reached (s ∷ ss) r ≡ s.begin + r
-reached_here s ss r h = ap (λ b. cond b (s.begin + r) (reached ss (r - (s.end - s.begin)))) (le-leb r (s.end - s.begin) h)
+reached_here s ss r h = grind (arith, nat_tests)
 
 reached_past : (s : Shift) (ss : List Shift) (r : ℕ) → s.end - s.begin < r → reached (s ∷ ss) r ≡ reached ss (r - (s.end - s.begin))
-reached_past s ss r h = ap (λ b. cond b (s.begin + r) (reached ss (r - (s.end - s.begin)))) (lt-leb r (s.end - s.begin) h)
+reached_past s ss r h = grind (arith, nat_tests)
 
 pub record Within (low : ℕ) (ss : List Shift) (r : ℕ) : Type 0 where
   pub above : low < reached ss r
@@ -176,26 +174,12 @@ table_holds ss cs rest e = ap (λ l. take (length ss) (l ++ rest)) e ∙ take-ap
 
 opened_next : (low : ℕ) (ss : List Shift) (r : ℕ) → Ordered low ss → opened ss (suc r) ≡ opened ss r + cond (open_at ss r) 1 0
 opened_next low [] r o = refl
-opened_next low (s ∷ ss) r o = go (dec_le s.begin r) (dec_le s.end r) (opened_next (suc s.end) ss r o.3)
-  where
-    here : Bool
-    here = leb s.begin r && ltb r s.end
-
-    adds : (b : Bool) → b ≡ false → ◌≡◌ {A = ℕ} (cond (b || open_at ss r) 1 0) (cond (open_at ss r) 1 0)
-    adds b e = ap (λ x. cond (x || open_at ss r) 1 0) e
-
-    go :
-        Dec (s.begin ≤ r) → Dec (s.end ≤ r) → opened ss (suc r) ≡ opened ss r + cond (open_at ss r) 1 0
-        → opened (s ∷ ss) (suc r) ≡ opened (s ∷ ss) r + cond (open_at (s ∷ ss) r) 1 0
-    go (yes b) (yes e) ih =
-        let n = adds (leb s.begin r && ltb r s.end) (and_right (leb s.begin r) _ (le-ltb r s.end e)) in omega (arith, opened_cons s ss r, opened_cons s ss (suc r))
-    go (yes b) (no e) ih =
-        let l : r < s.end = omega arith in
-        let h : (leb s.begin r && ltb r s.end) ≡ true = and_from _ _ (le-leb s.begin r b) (lt-ltb r s.end l) in
-        let n : ◌≡◌ {A = ℕ} (cond (open_at (s ∷ ss) r) 1 0) 1 = ap (λ x. cond (x || open_at ss r) 1 0) h in
-        omega (arith, opened_cons s ss r, opened_cons s ss (suc r), opened_none (suc s.end) r ss o.3 (omega arith), opened_none (suc s.end) (suc r) ss o.3 (omega arith))
-    go (no b) e ih =
-        let n = adds (leb s.begin r && ltb r s.end) (and_left _ _ (lt-leb s.begin r (omega arith))) in omega (arith, opened_cons s ss r, opened_cons s ss (suc r), o.1)
+opened_next low (s ∷ ss) r o =
+    let here = opened_none (suc s.end) r ss o.3 in
+    let next = opened_none (suc s.end) (suc r) ss o.3 in
+    let rest = opened_next (suc s.end) ss r o.3 in
+    let begins : s.begin < s.end = o.1 in
+    grind (arith, nat_tests, opened_cons s ss r, opened_cons s ss (suc r))
 
 worked_next : (ss : List Shift) (t : ℕ) → Ordered 0 ss → worked ss (suc t) ≡ worked ss t + cond (open_at ss (t % 10080)) 1 0
 worked_next ss t o = go (dec_le 10079 (t % 10080))
@@ -231,12 +215,7 @@ adjoint ss o p =
 -- the first shift is open where it begins
 first_open : (ss : List Shift) → Ordered 0 ss → 1 ≤ total ss → (m : ℕ) × (m < 10080) × (open_at ss m ≡ true)
 first_open [] o p = absurd (omega arith)
-first_open (s ∷ ss) o p = (
-  s.begin,
-  omega (arith, o.1, o.2),
-  or_left _ (open_at ss s.begin)
-      (and_from _ _ (le-leb s.begin s.begin (omega arith)) (lt-ltb s.begin s.end o.1)),
-)
+first_open (s ∷ ss) o p = (s.begin, omega (arith, o.1, o.2), let begins : s.begin < s.end = o.1 in grind (arith, nat_tests))
 
 pub opens : (ss : List Shift) → Ordered 0 ss → 1 ≤ total ss → Opens ss
 opens ss o p = record { some = first_open ss o p; at_most = λ t. omega (arith, worked_counts ss t o, worked_le ss t o) }

@@ -4,7 +4,8 @@ use native.Mathlib.Decide.{dec_le}
 use native.Mathlib.Nat.{mul-mod_left}
 use lib.ListN.{length-map}
 use Rattle.std.proofs.lemmas.List.{get_or-map}
-use Rattle.std.proofs.lemmas.Bool.{le-leb, lt-leb, lt-ltb, le-ltb}
+use Rattle.std.proofs.lemmas.Bool.{lt-ltb, le-ltb}
+use Rattle.std.proofs.lemmas.Bool.Decides.{nat_tests}
 use Rattle.calendar.specs.Clock.{cut}
 use Rattle.stations.specs.Lists.{at}
 use Rattle.stations.specs.Rule.{Rule}
@@ -34,10 +35,10 @@ abbrev prior : ℕ → List ℕ → List ℕ → ℕ → ℕ
 prior k free fs i = cond (leb k i) (get_or fs (i - k) 0) (get_or free (k - 1 - i) 0)
 
 prior_since : (k : ℕ) (free fs : List ℕ) (i : ℕ) → k ≤ i → prior k free fs i ≡ get_or fs (i - k) 0
-prior_since k free fs i h = ap (λ b. cond b (get_or fs (i - k) 0) (get_or free (k - 1 - i) 0)) (le-leb k i h)
+prior_since k free fs i h = grind (arith, nat_tests)
 
 prior_first : (k : ℕ) (free fs : List ℕ) (i : ℕ) → i < k → prior k free fs i ≡ get_or free (k - 1 - i) 0
-prior_first k free fs i h = ap (λ b. cond b (get_or fs (i - k) 0) (get_or free (k - 1 - i) 0)) (lt-leb k i h)
+prior_first k free fs i h = grind (arith, nat_tests)
 
 -- the same after one part more
 prior_more : (k f : ℕ) (free fs : List ℕ) (i : ℕ) → prior k (f ∷ free) fs i ≡ prior k free (f ∷ fs) (suc i)
