@@ -76,6 +76,7 @@ impl WaitTable {
     pub(crate) fn in_order(&self) -> ArrayVec<Event, MOST_ROWS>
         ensures { InOrder self.now.stages.count (asked self.now.stages.count self.now.told) result.items }
     {
+        // The flags lie by the rows as the waits do, and are of this search alone.
         let mut placed = [false; MOST_ROWS];
         let mut events = ArrayVec::new();
         while let Some(event) = self.next_ready(&placed) {

@@ -11,7 +11,7 @@ use crate::ovens::{Oven, OvenWork};
 use crate::served::{Served, Work};
 use calendar::settings::SettingFault;
 
-// What works on the parts of a station of the shop.
+// What works on the parts of a station of the shop. An enum and no `dyn Work`: making a station takes no heap.
 #[derive(Clone, Copy)]
 pub enum CoreWork {
     Machine(MachineWork),
