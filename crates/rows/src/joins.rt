@@ -27,7 +27,8 @@ impl<A: Row, B: Row> Row for Joined<A, B> {
     ghost meanings = { λ r. joined (A.Row.meanings r.first) (B.Row.meanings r.second) };
 
     ghost lawful = { λ r.
-        joined_lawful (A.Row.meanings r.first) (B.Row.meanings r.second) (A.Row.lawful r.first) (B.Row.lawful r.second) };
+        joined_lawful (A.Row.meanings r.first) (B.Row.meanings r.second)
+        (A.Row.lawful r.first) (B.Row.lawful r.second) };
 
     ghost few = { λ r. joined_few (A.Row.meanings r.first) (B.Row.meanings r.second) };
 

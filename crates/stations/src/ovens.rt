@@ -45,8 +45,8 @@ impl Work for OvenWork {
 pub type Oven = Served<OvenWork>;
 
 impl Served<OvenWork> {
-    // A fresh oven with a cycle of 1 to 1,440 minutes, 1 to 16 places and 1 minute to a cycle of baking, or which setting
-    // is off its range.
+    // A fresh oven with a cycle of 1 to 1,440 minutes, 1 to 16 places and 1 minute to a cycle of baking, or which
+    // setting is off its range.
     pub fn new(cycle: u32, places: u32, bake: u32) -> Result<Oven, SettingFault>
         ensures { Makes (oven_refusal cycle places bake)
             (λ o. (⟦<Oven as Station>⟧.meaning o ≡ fresh_oven cycle places bake)

@@ -28,7 +28,8 @@ impl Places {
     // answers the start.
     pub fn take(&mut self, earliest: u32, turn: u32) -> u32
         ensures start { result ≡ max earliest (slice_index self.old.free.items (array_vec_len self.old.free - 1)) }
-        ensures taken { self.new.free.items ≡ cut (result + turn) ∷ take (array_vec_len self.old.free - 1) self.old.free.items }
+        ensures taken { self.new.free.items
+            ≡ cut (result + turn) ∷ take (array_vec_len self.old.free - 1) self.old.free.items }
     {
         let start = earliest.max(self.free.pop().unwrap());
         self.free.insert(0, later_by(start, turn));

@@ -12,7 +12,8 @@ use calendar::clock::later_by;
 pub trait Work {
     ghost pace: { Self → Pace };
 
-    // The first minute at which a part that arrives at `arrival` may start. An arrival past the clock counts as its end.
+    // The first minute at which a part that arrives at `arrival` may start. An arrival past the clock counts as its
+    // end.
     fn earliest(&self, arrival: u32) -> u32
         ensures { result ≡ (pace self.now).from (cut arrival) };
 
