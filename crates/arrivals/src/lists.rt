@@ -112,7 +112,8 @@ fn stage_line<'f>(cursor: &mut Cursor<'f>) -> Result<StageForm<'f>, LineFault>
     Ok(lines::read_stage_line(line)?)
 }
 
-// The entry of the line that is next, of which some byte is there.
+// The entry of the line that is next, of which some byte is there. Not one function with `stage_line`: a reader that is
+// passed in would need its promise as a `requires`, which is no plainer.
 fn entry_line(cursor: &mut Cursor<'_>) -> Result<Entry, LineFault>
     requires { 0 < length (left cursor.old) }
     ensures { MatchResult result (λ d. Reading EntryFits entry_ended (left cursor.old) (left cursor.new) d)
