@@ -59,7 +59,7 @@ impl<'f> Cursor<'f> {
         Ok(word)
     }
 
-    // Goes past `c` if it is next, and says whether it was.
+    // Goes past `c` if it is next, and says whether it was: a flag is all that there is to tell.
     pub fn accept(&mut self, c: char) -> bool
         ensures { MatchBool result (left self.old ≡ c ∷ left self.new)
             ((left self.new ≡ left self.old) × ((x : List ℕ) → left self.old ≢ c ∷ x)) }

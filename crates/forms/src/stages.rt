@@ -149,6 +149,7 @@ impl<'f> Cursor<'f> {
             → left self.old ≡ travel_text u x → (t ≡ u) × (left self.new ≡ x)))
             (λ _. (u : OptionOf ℕ) (x : List ℕ) → LowTravel u → Moveless x → left self.old ≢ travel_text u x) }
     {
+        // That there is no move is no fault, so its fault is not handed on.
         let Ok(after) = self.piece(b"move") else {
             return Ok(None);
         };
@@ -166,6 +167,7 @@ impl<'f> Cursor<'f> {
             → (name ≡ u) × (left self.new ≡ bracketed x)))
             (λ _. (u : OptionOf (List ℕ)) (x : List ℕ) → WordWeek u → left self.old ≢ week_text u (bracketed x)) }
     {
+        // That there is no week is no fault, so its fault is not handed on.
         let Ok(after) = self.piece(b"week") else {
             return Ok(None);
         };

@@ -73,6 +73,7 @@ fn spaced_counts(cursor: &mut Cursor<'_>) -> Result<Counts, FormFault>
         → (counts_of c ≡ ns) × (left cursor.new ≡ 41 ∷ x)))
         (λ _. (ns x : List ℕ) → CountsFit ns → left cursor.old ≢ spaced ns ++ (41 ∷ x)) }
 {
+    // The count is kept beside the loop, as `Counts` keeps it: a vector of fixed capacity is not `Copy`.
     let mut values = [0; 16];
     let mut count = 0;
     for value in &mut values {
