@@ -60,14 +60,13 @@ nothing_later C laws N ms lawful book called K size granted sheet sheet' a wrote
           (record { fits = l.fits; lawful = l.lawful; row_lawful = rows-lawful; calls_lawful = called }) wrote.times ran.1.times Delivery tt),
     )
 
--- the last row of the sheet, where there are r
+-- the last row of the sheet
 pub delivery_row :
-    (N n : ℕ) (sheet : List ℕ) (r m : ℕ) → r ≡ 3 * N + 1 → m ≡ n
-    → take ((r - 1) * m + m - (r - 1) * m) (drop ((r - 1) * m) sheet) ≡ rows N n sheet Delivery
-delivery_row N n sheet r m is-r is-m =
-    let a : (r - 1) * m + m - (r - 1) * m ≡ n = omega arith in
-    let b : r - 1 ≡ N + N + N = omega arith in
-    ap (λ x. take x (drop ((r - 1) * m) sheet)) a ∙ ap (λ x. take n (drop (x * m) sheet)) b ∙ ap (λ x. take n (drop ((N + N + N) * x) sheet)) is-m
+    (N n : ℕ) (sheet : List ℕ) (m : ℕ) → m ≡ n → take (3 * N * m + m - 3 * N * m) (drop (3 * N * m) sheet) ≡ rows N n sheet Delivery
+delivery_row N n sheet m is =
+    let a : 3 * N * m + m - 3 * N * m ≡ n = omega arith in
+    let b : 3 * N ≡ N + N + N = omega arith in
+    ap (λ x. take x (drop (3 * N * m) sheet)) a ∙ ap (λ x. take n (drop (x * m) sheet)) b ∙ ap (λ x. take n (drop ((N + N + N) * x) sheet)) is
 
 -- what working the parts out has left, by the waits that were told
 pub record Evaluated (N : ℕ) (told : List (List (Option Wait))) (book : List Booking) (ms : List Station) (sheet sheet' : List ℕ) (ms' : List Station) : Type 0 where

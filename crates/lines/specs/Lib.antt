@@ -1,6 +1,7 @@
 pub mod Sheet
 pub mod Asked
 pub mod Order
+pub mod Tables
 pub mod Stations
 pub mod Refusals
 pub mod Faults

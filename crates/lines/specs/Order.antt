@@ -54,7 +54,7 @@ pub record Follows (N : ℕ) (waits : Event → List Wait) (before : List Event)
   pub new : among N before e ≡ false
   pub ready : Ready waits (among N before) e
 
--- AllByRecursion event follows those before it.
+-- Each event follows those before it.
 pub record Begun (N : ℕ) (waits : Event → List Wait) (es : List Event) : Type 0 where
   pub each : (k : ℕ) → k < length es → Follows N waits (take k es) (slice_index_or es k Delivery)
 

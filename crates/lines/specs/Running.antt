@@ -9,10 +9,10 @@ use Rattle.controls.specs.Events.{IsStage}
 use Rattle.controls.specs.Times.{Table, LawfulRow, wait_end, TimesOf}
 use Rattle.ledger.specs.declared.bookings.Booking.{Booking}
 use Rattle.lines.specs.declared.plans.Plan.{Plan}
-use Rattle.lines.specs.Asked.{asked}
 use Rattle.lines.specs.Missed.{calls}
 use Rattle.lines.specs.Order.{among}
 use Rattle.lines.specs.Sheet.{rows, room}
+use Rattle.lines.specs.Tables.{table_waits}
 use Rattle.lines.specs.Stations.{station, fresh_rules, LoadedWith}
 
 -- The minute that a wait of part n ends, 0 where there is no wait.
@@ -37,7 +37,7 @@ pub record Running
 
 -- The waits of a plan.
 abbrev pub plan_waits : Plan → Event → List Wait
-plan_waits plan = asked plan.table.stages.count plan.table.told
+plan_waits plan = table_waits plan.table
 
 -- The first k events of a plan.
 abbrev pub placed : Plan → ℕ → Event → Bool

@@ -21,35 +21,37 @@ pub(crate) struct WaitTable {
     ghost orderly: { ∥ Orderly stages.count told ∥₁ },
 }
 
-// The waits of every event, by the rows of the sheet.
-fn told_by<C: Control>(
-    control: &C,
-    stages: Stages,
-    counts: &[u32],
-) -> [[Option<Wait>; 3]; MOST_ROWS]
-    ensures { Tells stages.count ((C.meaning control.now).waits stages.count counts.now) result }
+// The waits of every event, by the rows of the sheet; those of the delivery again past the last row.
+fn told_by<C: Control>(control: &C, cards: Cards<'_>) -> [[Option<Wait>; 3]; MOST_ROWS]
+    requires { cards.stages ≤ 8 }
+    ensures { Tells cards.entry.stages
+        ((C.meaning control.now).waits cards.entry.stages cards.entry.counts.now) result }
 {
-    let cards = Cards {
-        stages: stages.count,
-        counts,
+    let stages = Stages {
+        count: cards.stages,
     };
     array::from_fn(
         |row| -> [Option<Wait>; 3]
-            ensures told { (e : EventType) → InLine stages.count e → row_of stages.count e ≡ row → somes result ≡ (C.meaning control.entry.now).waits cards.entry.stages cards.entry.counts.now e }
+            ensures told { (e : EventType) → InLine stages.count e → row_of stages.count e ≡ row
+                → somes result ≡ (C.meaning control.entry.now).waits cards.entry.stages cards.entry.counts.now e }
             ensures few { length result ≤ 3 }
         { control.waits(cards, stages.event_at(row)) },
     )
 }
 
 // Asks the control for the waits of every event. It is asked here, and not again.
-pub(crate) fn ask<C: Control>(control: &C, stages: Stages, counts: &[u32]) -> WaitTable
-    requires fits { Fits (C.meaning control.now) stages.count counts.now }
-    requires lawful { (C.meaning control.now).lawful stages.count counts.now ≡ true }
-    ensures stages { result.stages ≡ stages }
-    ensures tells { Tells stages.count ((C.meaning control.now).waits stages.count counts.now) result.told }
+pub(crate) fn ask<C: Control>(control: &C, cards: Cards<'_>) -> WaitTable
+    requires few { cards.stages ≤ 8 }
+    requires fits { Fits (C.meaning control.now) cards.stages cards.counts.now }
+    requires lawful { (C.meaning control.now).lawful cards.stages cards.counts.now ≡ true }
+    ensures stages { result.stages.count ≡ cards.entry.stages }
+    ensures tells { Tells cards.entry.stages
+        ((C.meaning control.now).waits cards.entry.stages cards.entry.counts.now) result.told }
 {
     WaitTable {
-        stages,
-        told: told_by(control, stages, counts),
+        stages: Stages {
+            count: cards.stages,
+        },
+        told: told_by(control, cards),
     }
 }

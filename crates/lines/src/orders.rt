@@ -1,40 +1,20 @@
-ghost use Rattle.std.specs.Prelude.{◌≡◌, true, [], slice_index_or};
+ghost use Rattle.std.specs.Prelude.{◌≡◌, [], true, slice_index_or};
 ghost use Rattle.std.specs.List.{list_all};
+ghost use Rattle.lines.specs.Order.{source_placed, Ready, Next, InOrder};
 ghost use Rattle.lines.specs.Sheet.{row_of};
-ghost use Rattle.lines.specs.Asked.{asked};
-ghost use Rattle.lines.specs.Order.{placed_by, source_placed, Ready, Next, InOrder};
+ghost use Rattle.lines.specs.Tables.{table_waits, stands};
 
 use crate::asking::WaitTable;
-use crate::sheets::{MOST_ROWS, Stages};
+use crate::sheets::MOST_ROWS;
 use arrayvec::ArrayVec;
 use controls::events::{Event, Wait};
 
-impl Stages {
-    // Whether an event is placed, by the flags of the rows.
-    fn is_placed(self, placed: &[bool; MOST_ROWS], event: Event) -> bool
-        ensures { result ≡ placed_by self.count placed.now event }
-    {
-        placed.get(self.row_of(event)).copied().unwrap_or(false)
-    }
-
-    // Whether a wait of lag 0 is on an event that is placed.
-    fn is_over(self, placed: &[bool; MOST_ROWS], wait: Option<Wait>) -> bool
-        ensures { result ≡ source_placed (placed_by self.count placed.now) wait }
-    {
-        match wait {
-            Some(Wait::After(source, 0)) => self.is_placed(placed, source),
-            _ => true,
-        }
-    }
-}
-
-impl Stages {
-    // Whether all waits of lag 0 are on events that are placed.
-    fn are_over(self, placed: &[bool; MOST_ROWS], waits: &[Option<Wait>]) -> bool
-        ensures { result ≡ list_all (source_placed (placed_by self.count placed.now)) waits.now }
-    {
-        waits.iter().all(|wait| self.is_over(placed, *wait))
-    }
+// An order of a part's events under way: which are placed, by the rows of the sheet, and how they follow one another so far.
+#[derive(Drop)]
+pub(crate) struct Placing<'t> {
+    table: &'t WaitTable,
+    placed: [bool; MOST_ROWS],
+    events: ArrayVec<Event, MOST_ROWS>,
 }
 
 impl WaitTable {
@@ -47,42 +27,71 @@ impl WaitTable {
             .map_or(&[], |waits| waits.as_slice())
     }
 
+    // The events of a part, each once and after those of its own part that it needs.
+    pub(crate) fn in_order(&self) -> ArrayVec<Event, MOST_ROWS>
+        ensures { InOrder self.now.stages.count (table_waits self.now) result.items }
+    {
+        let mut placing = Placing {
+            table: self,
+            placed: [false; MOST_ROWS],
+            events: ArrayVec::new(),
+        };
+        while let Some(event) = placing.next() {
+            placing.placed[self.stages.row_of(event)] = true;
+            placing.events.push(event);
+        }
+        placing.events
+    }
+}
+
+impl Placing<'_> {
+    // Whether an event is placed.
+    fn has(&self, event: Event) -> bool
+        ensures { result ≡ stands self.now event }
+    {
+        let row = self.table.stages.row_of(event);
+        self.placed.get(row).copied().unwrap_or(false)
+    }
+
+    // Whether a wait of lag 0 is on an event that is placed.
+    fn is_over(&self, wait: Option<Wait>) -> bool
+        ensures { result ≡ source_placed (stands self.now) wait }
+    {
+        match wait {
+            Some(Wait::After(source, 0)) => self.has(source),
+            _ => true,
+        }
+    }
+
+    // Whether all waits of lag 0 are on events that are placed.
+    fn are_over(&self, waits: &[Option<Wait>]) -> bool
+        ensures { result ≡ list_all (source_placed (stands self.now)) waits.now }
+    {
+        waits.iter().all(|wait| self.is_over(*wait))
+    }
+
     // Whether all that an event needs of its own part is placed.
-    fn is_ready(&self, placed: &[bool; MOST_ROWS], event: Event) -> bool
-        ensures ready { result ≡ true → Ready (asked self.now.stages.count self.now.told) (placed_by self.now.stages.count placed.now) event }
-        ensures unready { Ready (asked self.now.stages.count self.now.told) (placed_by self.now.stages.count placed.now) event → result ≡ true }
+    fn is_ready(&self, event: Event) -> bool
+        ensures ready { result ≡ true → Ready (table_waits self.now.table.now) (stands self.now) event }
+        ensures unready { Ready (table_waits self.now.table.now) (stands self.now) event → result ≡ true }
     {
         match event {
-            Event::Completion(stage) => self.stages.is_placed(placed, Event::Release(stage)),
-            _ => self.stages.are_over(placed, self.waits_of(event)),
+            Event::Completion(stage) => self.has(Event::Release(stage)),
+            _ => self.are_over(self.table.waits_of(event)),
         }
     }
 
     // An event that is not placed and is ready, if there is one.
-    fn next_ready(&self, placed: &[bool; MOST_ROWS]) -> Option<Event>
-        ensures { Next self.now.stages.count (asked self.now.stages.count self.now.told) (placed_by self.now.stages.count placed.now) result }
+    fn next(&self) -> Option<Event>
+        ensures { Next self.now.table.now.stages.count (table_waits self.now.table.now) (stands self.now) result }
     {
-        // Rows and no chain of them: what is sought is the event, and each is looked at with two tests.
-        for row in 0..self.stages.rows() {
-            let event = self.stages.event_at(row);
-            if !self.stages.is_placed(placed, event) && self.is_ready(placed, event) {
+        // A chain of `map` and `find` over the rows was tried, and its proof did not close.
+        for row in 0..self.table.stages.rows() {
+            let event = self.table.stages.event_at(row);
+            if !self.has(event) && self.is_ready(event) {
                 return Some(event);
             }
         }
         None
-    }
-
-    // The events of a part, each once and after those of its own part that it needs.
-    pub(crate) fn in_order(&self) -> ArrayVec<Event, MOST_ROWS>
-        ensures { InOrder self.now.stages.count (asked self.now.stages.count self.now.told) result.items }
-    {
-        // The flags lie by the rows as the waits do, and are of this search alone.
-        let mut placed = [false; MOST_ROWS];
-        let mut events = ArrayVec::new();
-        while let Some(event) = self.next_ready(&placed) {
-            placed[self.stages.row_of(event)] = true;
-            events.push(event);
-        }
-        events
     }
 }

@@ -1,4 +1,4 @@
-ghost use Rattle.std.specs.Prelude.{◌≡◌, ◌+◌, ◌*◌, ◌<◌, ◌≤◌};
+ghost use Rattle.std.specs.Prelude.{◌≡◌, ◌+◌, ◌-◌, ◌*◌, ◌<◌, ◌≤◌};
 ghost use Rattle.controls.specs.Events.{InLine};
 ghost use Rattle.lines.specs.Sheet.{row_of};
 
@@ -13,6 +13,21 @@ pub(crate) const MOST_ROWS: usize = 25;
 pub(crate) struct Stages {
     pub(crate) count: u32,
     ghost few: { count ≤ 8 },
+}
+
+// The place of a stage among the stages, counted from 0.
+fn index_of(stage: StageNo) -> usize
+    ensures { result ≡ stage.0 - 1 }
+{
+    (stage.0 as usize).saturating_sub(1)
+}
+
+// The stage at a place, counted from 0.
+fn stage_at(index: usize) -> StageNo
+    requires { index < 8 }
+    ensures { result.0 ≡ index + 1 }
+{
+    StageNo(index as u32 + 1)
 }
 
 impl Stages {
@@ -30,9 +45,9 @@ impl Stages {
     {
         let n = self.count as usize;
         match event {
-            Event::Pass(stage) => (stage.0 as usize).saturating_sub(1),
-            Event::Release(stage) => n + (stage.0 as usize).saturating_sub(1),
-            Event::Completion(stage) => n + n + (stage.0 as usize).saturating_sub(1),
+            Event::Pass(stage) => index_of(stage),
+            Event::Release(stage) => n + index_of(stage),
+            Event::Completion(stage) => n + n + index_of(stage),
             Event::Delivery => n + n + n,
         }
     }
@@ -44,11 +59,11 @@ impl Stages {
     {
         let n = self.count as usize;
         if row < n {
-            Event::Pass(StageNo(row as u32 + 1))
+            Event::Pass(stage_at(row))
         } else if row < n + n {
-            Event::Release(StageNo((row - n) as u32 + 1))
+            Event::Release(stage_at(row - n))
         } else if row < n + n + n {
-            Event::Completion(StageNo((row - n - n) as u32 + 1))
+            Event::Completion(stage_at(row - n - n))
         } else {
             Event::Delivery
         }

@@ -9,7 +9,6 @@ use crate::faults::LineFault;
 use crate::line::Line;
 use crate::misses::missed;
 use crate::plans::Plan;
-use crate::sheets::Stages;
 use controls::cards::Cards;
 use controls::control::Control;
 use ledger::board::Board;
@@ -42,29 +41,27 @@ impl<R: Row + Drop, C: Control + Drop> Line<R, C> {
 }
 
 impl<R: Row, C: Control> Line<R, C> {
-    // The stages of the line, if the booked parts can be run with these counts on the sheet; else the first refusal.
-    fn admit(&self, book: &Book, counts: &[u32], sheet: &[u32]) -> Result<Stages, LineFault>
-        ensures { MatchResult result (λ s. (s.count ≡ self.now.stages) × NoneHolds (against_run (shop_of (C.Control.meaning self.now.control) self.now.stages (R.Row.meanings self.now.row)) (length book.now.parts.items) counts.now (length sheet.now)))
-            (λ e. RefusedBy (against_run (shop_of (C.Control.meaning self.now.control) self.now.stages (R.Row.meanings self.now.row)) (length book.now.parts.items) counts.now (length sheet.now)) (line_number e)) }
+    // Whether the booked parts can be run with these cards on the sheet; else the first refusal.
+    fn admit(&self, book: &Book, cards: Cards<'_>, sheet: &[u32]) -> Result<(), LineFault>
+        requires { cards.stages ≡ self.now.stages }
+        ensures { let against = against_run
+            (shop_of (C.Control.meaning self.now.control) self.now.stages (R.Row.meanings self.now.row))
+            (length book.now.parts.items) cards.entry.counts.now (length sheet.now) in
+            MatchResult result (λ _. NoneHolds against) (λ e. RefusedBy against (line_number e)) }
     {
         if no_line(self.stages, self.row.len()) {
             return Err(LineFault::Stages);
         }
-        let stages = Stages { count: self.stages };
-        if counts.len() != C::COUNTS_PER_STAGE as usize * self.stages as usize {
+        if cards.counts.len() != C::COUNTS_PER_STAGE as usize * self.stages as usize {
             return Err(LineFault::Places);
         }
-        let cards = Cards {
-            stages: self.stages,
-            counts,
-        };
         if !self.control.is_lawful(cards) {
             return Err(LineFault::Unlawful);
         }
-        if sheet.len() < stages.rows() * book.parts().len() {
+        if sheet.len() < (3 * self.stages as usize + 1) * book.parts().len() {
             return Err(LineFault::ShortSheet);
         }
-        Ok(stages)
+        Ok(())
     }
 
     // Works out the booked parts with the counts of the board, from fresh stations. The sheet's first numbers become the rows pass,
@@ -80,12 +77,15 @@ impl<R: Row, C: Control> Line<R, C> {
         ensures same { (self.new.control ≡ self.old.control) × (self.new.stages ≡ self.old.stages) }
         ensures later { MoreCardsNothingLater (shop_of (C.Control.meaning self.old.control) self.old.stages (R.Row.meanings self.old.row)) book.now.parts.items board.now.counts.items result sheet.new }
     {
-        let counts = board.counts();
-        let stages = self.admit(book, counts, sheet)?;
-        let plan = Plan::by(ask(&self.control, stages, counts));
+        let cards = Cards {
+            stages: self.stages,
+            counts: board.counts(),
+        };
+        self.admit(book, cards, sheet)?;
+        let plan = Plan::by(ask(&self.control, cards));
         plan.evaluate(&mut self.row, book, sheet);
         let parts = book.parts().len();
-        let start = (stages.rows() - 1) * parts;
+        let start = 3 * self.stages as usize * parts;
         Ok(missed(book, &sheet[start..start + parts]))
     }
 }

@@ -10,10 +10,10 @@ use Rattle.lines.proofs.asking.told_by.Goals as goal
 pub returns : goal.returns
 returns g c = record {
   all = λ e e_in.
-      let f = row_few c.args.stages.count e e_in in
-      let it = made_at _ _ (λ q x y h. search rules) c.from_fn.result 0 25 (row_of c.args.stages.count e) _ refl c.from_fn.ensures.items.each (omega arith) (omega (arith, c.args.stages.few)) in
+      let f = row_few c.args.cards.stages e e_in in
+      let it = made_at _ _ (λ q x y h. search rules) c.from_fn.result 0 25 (row_of c.args.cards.stages e) _ refl c.from_fn.ensures.items.each (omega arith) (omega (arith, c.requires)) in
       let told = it.2.1 in
-      let s : somes it.0 ≡ (g.C.Control.meaning c.args.control.now).waits c.args.stages.count c.args.counts.now e = search rules in
+      let s : somes it.0 ≡ (g.C.Control.meaning c.args.control.now).waits c.args.cards.stages c.args.cards.counts.now e = search rules in
       ap somes (it.1.1 []) ∙ s;
   few = λ row. elim (cases_lt row 25) [
     | inl l ↦

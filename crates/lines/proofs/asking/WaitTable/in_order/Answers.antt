@@ -1,5 +1,7 @@
-use Rattle.std.proofs.Common.{arith}
-use Rattle.lines.specs.Asked.{asked}
+use Rattle.std.proofs.Common.{◌<◌, Some, None, subst, arith}
+use Rattle.lines.specs.declared.asking.WaitTable.{WaitTable}
+use Rattle.lines.specs.Order.{placed_by, Next}
+use Rattle.lines.specs.Tables.{table_waits}
 use Rattle.lines.proofs.Kept.{inside_of}
 use Rattle.lines.proofs.Ordering.{fewer_down, has_room, turn_more, in_order}
 use Rattle.lines.proofs.asking.WaitTable.in_order.Goals as goal
@@ -8,25 +10,35 @@ pub push-requires : goal.push-requires
 push-requires c =
     let table = c.args.self.now in
     let N = table.stages.count in
-    let room = has_room N table.stages.few (asked N table.told) c.loop-event.placed c.loop-event.events.items c.in-Some.event c.row_of.result
-    c.loop-event.invariant c.in-Some.ensures c.row_of.ensures.row in (omega arith, room)
+    let flags = c.loop-event.placing.placed in
+    let found = subst (λ (t : WaitTable). Next t.stages.count (table_waits t) (placed_by t.stages.count flags) (Some c.in-Some.event)) c.loop-event.invariant.0 c.in-Some.ensures in
+    let room = has_room N table.stages.few (table_waits table) flags c.loop-event.placing.events.items c.in-Some.event c.row_of.result
+    c.loop-event.invariant.1 found c.row_of.ensures.row in (omega arith, room)
 
 pub loop-event-smaller : goal.loop-event-smaller
 loop-event-smaller c =
     let table = c.args.self.now in
     let N = table.stages.count in
-    fewer_down N table.stages.few (asked N table.told) c.loop-event.placed c.loop-event.events.items c.in-Some.event c.row_of.result
-    c.loop-event.invariant c.in-Some.ensures c.row_of.ensures.row
+    let flags = c.loop-event.placing.placed in
+    let found = subst (λ (t : WaitTable). Next t.stages.count (table_waits t) (placed_by t.stages.count flags) (Some c.in-Some.event)) c.loop-event.invariant.0 c.in-Some.ensures in
+    fewer_down N table.stages.few (table_waits table) flags c.loop-event.placing.events.items c.in-Some.event c.row_of.result
+    c.loop-event.invariant.1 found c.row_of.ensures.row
 
 pub loop-event-preserved : goal.loop-event-preserved
 loop-event-preserved c =
     let table = c.args.self.now in
     let N = table.stages.count in
-    rw c.push.ensures.items
-    (turn_more N table.stages.few (asked N table.told) c.loop-event.placed c.loop-event.events.items c.in-Some.event c.row_of.result
-    c.loop-event.invariant c.in-Some.ensures c.row_of.ensures.row (inside_of N table.told table.orderly))
+    let flags = c.loop-event.placing.placed in
+    let found = subst (λ (t : WaitTable). Next t.stages.count (table_waits t) (placed_by t.stages.count flags) (Some c.in-Some.event)) c.loop-event.invariant.0 c.in-Some.ensures in (
+      c.loop-event.invariant.0,
+      rw c.push.ensures.items
+          (turn_more N table.stages.few (table_waits table) flags c.loop-event.placing.events.items c.in-Some.event c.row_of.result
+          c.loop-event.invariant.1 found c.row_of.ensures.row (inside_of N table.told table.orderly)),
+    )
 
 pub returns : goal.returns
 returns c =
     let table = c.args.self.now in
-    in_order table.stages.count table.told c.loop-event.placed _ table.orderly c.loop-event.invariant.2 c.loop-event.invariant.3 c.in_default.ensures
+    let flags = c.loop-event.placing.placed in
+    let none = subst (λ (t : WaitTable). Next t.stages.count (table_waits t) (placed_by t.stages.count flags) None) c.loop-event.invariant.0 c.in_default.ensures in
+    in_order table.stages.count table.told flags _ table.orderly c.loop-event.invariant.1.2 c.loop-event.invariant.1.3 none

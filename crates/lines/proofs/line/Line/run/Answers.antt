@@ -15,16 +15,14 @@ returns g c =
     let C = g.C.Control.meaning line.control in
     let plan = c.by-plan.result in
     let sz : length (vec_items book.parts) ≡ vec_len book.parts = search rules in
-    let is : plan.table.stages.count ≡ N =
-    ap (λ (t : WaitTable). t.stages.count) c.by-plan.ensures ∙ ap (λ (s : Stages). s.count) c.ask.ensures.stages ∙ c.in_ok-stages.ensures.0 in
-    let tells : Tells N (C.waits N c.counts-counts.result.now) plan.table.told =
-    subst (λ (t : WaitTable). Tells N (C.waits N c.counts-counts.result.now) t.told) (sym c.by-plan.ensures)
-    (subst (λ n. Tells n (C.waits n c.counts-counts.result.now) c.ask.result.told) c.in_ok-stages.ensures.0 c.ask.ensures.tells) in
+    let K = c.counts.result.now in
+    let is : plan.table.stages.count ≡ N = ap (λ (t : WaitTable). t.stages.count) c.by-plan.ensures ∙ c.ask.ensures.stages in
+    let tells : Tells N (C.waits N K) plan.table.told = subst (λ (t : WaitTable). Tells N (C.waits N K) t.told) (sym c.by-plan.ensures) c.ask.ensures.tells in
     let end = run_ends C (g.met.C.Control.lawful line.control) N (g.R.Row.meanings line.row) (g.met.R.Row.lawful line.row) book.parts.items (book_rises book sz)
-    c.counts-counts.result.now c.args.sheet.now c.in_ok-stages.ensures.1 plan.table.stages.count is plan.table.told
+    K c.args.sheet.now c.in_ok-admit.ensures plan.table.stages.count is plan.table.told
     tells c.evaluate.new.sheet (g.R.Row.meanings c.evaluate.new.row) c.evaluate.auto.sheet
     (record { times = c.evaluate.ensures.times; others = c.evaluate.ensures.others; row = c.evaluate.ensures.row }) c.missed.result _
-    (delivery_row N (length book.parts.items) c.evaluate.new.sheet c.rows.result (length c.parts-parts.result.now) (omega (arith, c.rows.ensures, c.in_ok-stages.ensures.0)) (ap length c.parts-parts.ensures)) c.missed.ensures.count c.missed.ensures.first in
+    (delivery_row N (length book.parts.items) c.evaluate.new.sheet (length c.parts-parts.result.now) (ap length c.parts-parts.ensures)) c.missed.ensures.count c.missed.ensures.first in
     let done = subst (λ K. Ran (shop_of C N (g.R.Row.meanings line.row)) book.parts.items K c.args.sheet.now (g.R.Row.meanings line.row) (Ok c.missed.result) c.evaluate.new.sheet (g.R.Row.meanings c.evaluate.new.row)
-    × MoreCardsNothingLater (shop_of C N (g.R.Row.meanings line.row)) book.parts.items K (Ok c.missed.result) c.evaluate.new.sheet) c.counts-counts.ensures end in
+    × MoreCardsNothingLater (shop_of C N (g.R.Row.meanings line.row)) book.parts.items K (Ok c.missed.result) c.evaluate.new.sheet) c.counts.ensures end in
     record { ran = done.0; same = (refl, refl); later = done.1 }
