@@ -11,7 +11,9 @@ use Rattle.controls.specs.declared.events.Wait.{Wait}
 use Rattle.controls.specs.declared.events.Wait.TheVariants.{Call, After}
 use Rattle.std.specs.List.{AllByRecursion}
 use Rattle.controls.specs.Events.{InLine, Waits, SourceIn}
+use Rattle.lines.specs.declared.asking.WaitTable.{WaitTable}
 use Rattle.lines.specs.Sheet.{row_of}
+use Rattle.lines.specs.Tables.{table_waits}
 use Rattle.lines.specs.Asked.{asked}
 use Rattle.lines.specs.Order.{SourcePlaced, Ready, placed_by, Next, among, Follows, Begun, InOrder, Orderly}
 use Rattle.controls.proofs.Basics.{each_map₂}
@@ -126,3 +128,9 @@ module _ (N : ℕ) (few : N ≤ 8) (waits : Event → List Wait) (flags : List B
     subst (λ x. Shows N (set flags x true) (es ++ (e ∷ []))) (sym is) (tells_more N flags es e (subst (λ x. x < length flags) is (omega (arith, lt, t.0))) t.2),
     begun_more N waits es e t.3 (follows_next N waits flags es e t.2 inside found.0 found.1 found.2),
   )
+
+-- the same event is next by a table that is the same
+pub next_by :
+    (t u : WaitTable) → t ≡ u → (flags : List Bool) (o : Option Event)
+    → Next t.stages.count (table_waits t) (placed_by t.stages.count flags) o → Next u.stages.count (table_waits u) (placed_by u.stages.count flags) o
+next_by t u is flags o h = subst (λ (x : WaitTable). Next x.stages.count (table_waits x) (placed_by x.stages.count flags) o) is h

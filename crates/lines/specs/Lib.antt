@@ -2,6 +2,7 @@ pub mod Sheet
 pub mod Asked
 pub mod Order
 pub mod Tables
+pub mod Parts
 pub mod Stations
 pub mod Refusals
 pub mod Faults

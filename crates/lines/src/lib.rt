@@ -6,6 +6,7 @@ pub mod faults;
 pub mod line;
 mod misses;
 mod orders;
+mod parts;
 mod plans;
 mod running;
 mod sheets;

@@ -4,10 +4,12 @@ ghost use Rattle.controls.specs.Events.{InLine};
 ghost use Rattle.controls.specs.Times.{wait_end, Times};
 ghost use Rattle.controls.specs.declared.events.Event.TheVariants.{Release, Delivery};
 ghost use Rattle.lines.specs.Missed.{calls};
+ghost use Rattle.lines.specs.Parts.{bookings};
 ghost use Rattle.lines.specs.Running.{told_end, placed, plan_waits, Advances};
 ghost use Rattle.lines.specs.Sheet.{rows, room};
 ghost use Rattle.lines.specs.Stations.{fresh_rules, RowLoadedWith};
 
+use crate::parts::Part;
 use crate::plans::Plan;
 use crate::sheets::Stages;
 use controls::events::{Event, Wait};
@@ -15,96 +17,88 @@ use ledger::book::Book;
 use rows::loading::Row;
 
 impl Stages {
-    // The minute at which a wait of the part at the index ends.
-    fn wait_end(self, book: &Book, sheet: &[u32], index: usize, wait: Option<Wait>) -> u32
-        requires { index < length book.now.parts.items }
-        ensures { result ≡ told_end (calls book.now.parts.items) (rows self.count (length book.now.parts.items) sheet.now) (index + 1) wait }
+    // The minute at which a wait of the part ends.
+    fn wait_end(self, part: &Part<'_>, sheet: &[u32], wait: Option<Wait>) -> u32
+        ensures { result ≡ told_end (calls (bookings part.now)) (rows self.count (length (bookings part.now)) sheet.now)
+            (part.now.index + 1) wait }
     {
-        let parts = book.parts();
         match wait {
             None => 0,
-            Some(Wait::Call) => parts[index].call,
-            Some(Wait::After(source, lag)) => match index.checked_sub(lag as usize) {
+            Some(Wait::Call) => part.call(),
+            Some(Wait::After(source, lag)) => match part.before(lag) {
                 None => 0,
-                Some(earlier) => {
-                    let row = self.row_of(source);
-                    sheet.get(row * parts.len() + earlier).copied().unwrap_or(0)
-                }
+                Some(earlier) => earlier.minute(self, sheet, source),
             },
         }
     }
 
-    // The latest minute at which one of the waits of the part at the index ends.
-    fn latest_wait(self, book: &Book, sheet: &[u32], index: usize, waits: &[Option<Wait>]) -> u32
-        requires { index < length book.now.parts.items }
-        ensures { result ≡ latest (map (wait_end (calls book.now.parts.items) (rows self.count (length book.now.parts.items) sheet.now) (index + 1)) (somes waits.now)) }
+    // The latest minute at which one of the waits of the part ends.
+    fn latest_wait(self, part: &Part<'_>, sheet: &[u32], waits: &[Option<Wait>]) -> u32
+        ensures { result ≡ latest (map
+            (wait_end (calls (bookings part.now)) (rows self.count (length (bookings part.now)) sheet.now) (part.now.index + 1))
+            (somes waits.now)) }
     {
         let mut latest: u32 = 0;
         for wait in waits {
-            latest = latest.max(self.wait_end(book, sheet, index, *wait));
+            latest = latest.max(self.wait_end(part, sheet, *wait));
         }
         latest
     }
 }
 
-// The row and the sheet go through as they are: a struct that held both `&mut` would say in each contract that it holds the same
-// ones still, and that the sheet is wide enough besides.
+// Row and sheet are two `&mut`: a struct of both would say in each contract that it holds the same ones still.
 impl Plan {
-    // Works out an event of the plan for the part at the index.
-    fn place_event<R: Row>(
-        &self,
-        row: &mut R,
-        book: &Book,
-        sheet: &mut [u32],
-        index: usize,
-        event: Event,
-    )
-        requires index_in_bounds { index < length book.now.parts.items }
+    // Works out an event of the plan for the part.
+    fn place_event<R: Row>(&self, row: &mut R, sheet: &mut [u32], part: &Part<'_>, event: Event)
         requires in_line { InLine self.now.table.stages.count event }
-        requires wide { room self.now.table.stages.count (length book.now.parts.items) ≤ length sheet.old }
+        requires wide { room self.now.table.stages.count (length (bookings part.now)) ≤ length sheet.old }
         ensures { (k : ℕ) → k < length self.now.events.items → slice_index_or self.now.events.items k Delivery ≡ event
-            → Advances self.now book.now.parts.items index (placed self.now k) sheet.old (R.meanings row.old) index (placed self.now (k + 1)) sheet.new (R.meanings row.new) }
+            → Advances self.now (bookings part.now) part.now.index (placed self.now k) sheet.old (R.meanings row.old)
+            part.now.index (placed self.now (k + 1)) sheet.new (R.meanings row.new) }
     {
         let stages = self.table.stages;
-        let parts = book.parts().len();
-        let place = stages.row_of(event) * parts + index;
+        let place = part.place(stages, event);
         match event {
             Event::Completion(stage) => {
-                let released = stages.row_of(Event::Release(stage)) * parts + index;
+                let released = part.place(stages, Event::Release(stage));
                 // The station grants the load: the releases of a stage never fall.
                 if let Ok(departure) = row.load(stage, sheet[released]) {
                     sheet[place] = departure;
                 }
             }
             _ => {
-                sheet[place] = stages.latest_wait(book, sheet, index, self.table.waits_of(event));
+                sheet[place] = stages.latest_wait(part, sheet, self.table.waits_of(event));
             }
         }
     }
 
-    // Works out the part at the index.
-    fn run_part<R: Row>(&self, row: &mut R, book: &Book, sheet: &mut [u32], index: usize)
-        requires index_in_bounds { index < length book.now.parts.items }
-        requires wide { room self.now.table.stages.count (length book.now.parts.items) ≤ length sheet.old }
-        ensures { Advances self.now book.now.parts.items index (placed self.now 0) sheet.old (R.meanings row.old) (index + 1) (placed self.now 0) sheet.new (R.meanings row.new) }
+    // Works out the part.
+    fn run_part<R: Row>(&self, row: &mut R, sheet: &mut [u32], part: &Part<'_>)
+        requires { room self.now.table.stages.count (length (bookings part.now)) ≤ length sheet.old }
+        ensures { Advances self.now (bookings part.now) part.now.index (placed self.now 0) sheet.old (R.meanings row.old)
+            (part.now.index + 1) (placed self.now 0) sheet.new (R.meanings row.new) }
     {
         for event in self.events.as_slice() {
-            self.place_event(row, book, sheet, index, *event);
+            self.place_event(row, sheet, part, *event);
         }
     }
 
     // Works out all booked parts, from fresh stations.
-    pub(crate) fn evaluate<R: Row>(&self, row: &mut R, book: &Book, sheet: &mut [u32])
+    pub(crate) fn evaluate<R: Row>(&self, row: &mut R, sheet: &mut [u32], book: &Book)
         requires wide { room self.now.table.stages.count (length book.now.parts.items) ≤ length sheet.old }
         requires stages_in_bounds { self.now.table.stages.count ≤ length (R.meanings row.old) }
-        ensures times { Times self.now.table.stages.count (plan_waits self.now) (fresh_rules (R.meanings row.old)) (calls book.now.parts.items) (rows self.now.table.stages.count (length book.now.parts.items) sheet.new) }
-        ensures others { drop (room self.now.table.stages.count (length book.now.parts.items)) sheet.new ≡ drop (room self.now.table.stages.count (length book.now.parts.items)) sheet.old }
-        ensures row { RowLoadedWith self.now.table.stages.count (λ i. rows self.now.table.stages.count (length book.now.parts.items) sheet.new (Release i)) (R.meanings row.old) (R.meanings row.new) }
+        ensures times { Times self.now.table.stages.count (plan_waits self.now) (fresh_rules (R.meanings row.old))
+            (calls book.now.parts.items) (rows self.now.table.stages.count (length book.now.parts.items) sheet.new) }
+        ensures others { drop (room self.now.table.stages.count (length book.now.parts.items)) sheet.new
+            ≡ drop (room self.now.table.stages.count (length book.now.parts.items)) sheet.old }
+        ensures row { RowLoadedWith self.now.table.stages.count
+            (λ i. rows self.now.table.stages.count (length book.now.parts.items) sheet.new (Release i))
+            (R.meanings row.old) (R.meanings row.new) }
     {
         row.fresh();
         // The index is the part's place in every row of the sheet, and not only in the book.
         for index in 0..book.parts().len() {
-            self.run_part(row, book, sheet, index);
+            self.run_part(row, sheet, &Part { book, index });
         }
     }
 }

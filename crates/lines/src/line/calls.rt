@@ -83,7 +83,7 @@ impl<R: Row, C: Control> Line<R, C> {
         };
         self.admit(book, cards, sheet)?;
         let plan = Plan::by(ask(&self.control, cards));
-        plan.evaluate(&mut self.row, book, sheet);
+        plan.evaluate(&mut self.row, sheet, book);
         let parts = book.parts().len();
         let start = 3 * self.stages as usize * parts;
         Ok(missed(book, &sheet[start..start + parts]))

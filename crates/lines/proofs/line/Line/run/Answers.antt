@@ -1,6 +1,5 @@
-use Rattle.std.proofs.Common.{◌≡◌, length, vec_items, vec_len, Ok, sym, refl, ap, ◌∙◌, subst, arith, rules}
+use Rattle.std.proofs.Common.{◌≡◌, length, vec_items, vec_len, Ok, sym, refl, ap, ◌∙◌, subst, rules}
 use Rattle.lines.specs.declared.asking.WaitTable.{WaitTable}
-use Rattle.lines.specs.declared.sheets.Stages.{Stages}
 use Rattle.lines.specs.Asked.{Tells}
 use Rattle.lines.specs.Runs.{shop_of, Ran, MoreCardsNothingLater}
 use Rattle.lines.proofs.Granting.{delivery_row, run_ends}

@@ -23,5 +23,5 @@ returns g c = λ begun first run.
     let plan = c.args.self.now in
     let N = plan.table.stages.count in
     let sz : length plan.events.items ≤ c.loop-event.event-index = search rules in
-    part_over N (plan_waits plan) plan.events.items (order_of N (plan_waits plan) plan.events.items plan.order) begun _ first c.args.index c.loop-event.sheet
+    part_over N (plan_waits plan) plan.events.items (order_of N (plan_waits plan) plan.events.items plan.order) begun _ first c.args.part.now.index c.loop-event.sheet
     (g.R.Row.meanings c.loop-event.row) c.loop-event.event-index sz (c.loop-event.invariant begun first run)

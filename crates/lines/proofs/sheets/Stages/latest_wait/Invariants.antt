@@ -6,4 +6,4 @@ use Rattle.lines.proofs.sheets.Stages.latest_wait.Given as goal
 
 abbrev pub invariant-loop-wait : goal.invariant-loop-wait
 invariant-loop-wait l =
-    l.latest ≡ latest_of (calls l.book.parts.items) (rows l.self.count (length l.book.parts.items) l.sheet) (l.index + 1) (take l.wait-index l.waits)
+    l.latest ≡ latest_of (calls l.part.book.now.parts.items) (rows l.self.count (length l.part.book.now.parts.items) l.sheet) (l.part.index + 1) (take l.wait-index l.waits)
