@@ -1,5 +1,5 @@
 -- When waits end, and the places of the sheet.
-use Rattle.std.proofs.Common.{◌≡◌, ℕ, zero, suc, ◌+◌, ◌-◌, ◌*◌, ◌<◌, ◌≤◌, max, List, [], ◌∷◌, map, length, get_or, take, drop, Some, None, Option, sym, refl, ap, ◌∙◌, arith, length-drop, length-take-le, get_or-drop, get_or-take}
+use Rattle.std.proofs.Common.{◌≡◌, ℕ, zero, suc, ◌+◌, ◌*◌, ◌<◌, ◌≤◌, max, List, [], ◌∷◌, map, length, get_or, take, drop, Some, None, Option, sym, refl, ap, ◌∙◌, arith, length-drop, length-take-le, get_or-drop, get_or-take}
 use Rattle.std.proofs.lemmas.Nat.{mul-le}
 use Rattle.std.proofs.lemmas.List.{take_all}
 use Rattle.controls.specs.declared.events.Event.{Event}
@@ -37,15 +37,6 @@ rows_length N n sheet e h wide =
 
 pub rows_at : (N n : ℕ) (sheet : List ℕ) (e : Event) (k : ℕ) → k < n → at (rows N n sheet e) (suc k) ≡ get_or sheet (row_of N e * n + k) 0
 rows_at N n sheet e k h = get_or-take n (drop (row_of N e * n) sheet) k 0 h ∙ get_or-drop (row_of N e * n) sheet k 0
-
-pub ends_after : (N n : ℕ) (calls sheet : List ℕ) (index lag r : ℕ) (s : Event) → index < n → lag ≤ index → r ≡ row_of N s →
-    get_or sheet (r * n + (index - lag)) 0 ≡ at (rows N n sheet s) (index + 1 - lag)
-ends_after N n calls sheet index lag r s h l is =
-    let q : suc (index - lag) ≡ index + 1 - lag = omega arith in
-    ap (λ x. get_or sheet (x * n + (index - lag)) 0) is ∙ sym (rows_at N n sheet s (index - lag) (omega arith)) ∙ ap (at (rows N n sheet s)) q
-
-pub at_next : (xs : List ℕ) (i : ℕ) → get_or xs i 0 ≡ at xs (i + 1)
-at_next xs i = let q : suc i ≡ i + 1 = omega arith in ap (at xs) q
 
 latest_somes : (calls : List ℕ) (t : Table) (n : ℕ) (os : List (Option Wait)) → latest (map (wait_end calls t n) (somes os)) ≡ latest (map (told_end calls t n) os)
 latest_somes calls t n [] = refl

@@ -113,12 +113,6 @@ same_row N Delivery (Release j) a b h = absurd (omega arith)
 same_row N Delivery (Completion j) a b h = absurd (omega arith)
 same_row N Delivery Delivery a b h = refl
 
-pub row_below : (N : ℕ) (e : Event) → InLine N e → row_of N e < N + N + N + 1
-row_below N (Pass i) h = omega arith
-row_below N (Release i) h = omega arith
-row_below N (Completion i) h = omega arith
-row_below N Delivery h = omega arith
-
 -- one more row is looked at
 pub looked : (N : ℕ) (waits : Event → List Wait) (p : Event → Bool) (r : ℕ) (f : Event) → InLine N f → row_of N f ≡ r →
     ((e : Event) → InLine N e → row_of N e < r → Ready waits p e → p e ≡ true) → (Ready waits p f → p f ≡ true) →

@@ -1,5 +1,5 @@
 -- Places on the sheet, and what a book that exists keeps.
-use Rattle.std.proofs.Common.{◌≡◌, ℕ, suc, ◌+◌, ◌*◌, ◌<◌, ◌≤◌, List, [], ◌∷◌, length, get_or, vec_items, vec_len, sym, ap, ◌∙◌, subst, arith}
+use Rattle.std.proofs.Common.{◌≡◌, ℕ, suc, ◌+◌, ◌<◌, ◌≤◌, List, [], ◌∷◌, length, get_or, vec_items, vec_len, sym, ap, ◌∙◌, subst, arith}
 use Rattle.std.proofs.lemmas.List.{get_or_default}
 use Rattle.calendar.specs.Clock.{E}
 use Rattle.stations.specs.Rule.{Rising}
@@ -11,11 +11,6 @@ use Rattle.lines.specs.Order.{InOrder}
 use Rattle.ledger.specs.declared.bookings.Booking.{Booking}
 use Rattle.ledger.specs.declared.book.Book.{Book}
 use Rattle.lines.specs.Missed.{calls}
-use Rattle.lines.specs.Sheet.{row_of, room}
-use Rattle.lines.proofs.Ends.{in_room}
-
-pub in_sheet : (N n i r L : ℕ) (e : Event) → InLine N e → i < n → r ≡ row_of N e → room N n ≤ L → r * n + i < L
-in_sheet N n i r L e e_in h is wide = subst (λ x. x * n + i < L) (sym is) (let k = in_room N n i e e_in h in omega arith)
 
 -- the calls of a book never fall
 calls_rise :
