@@ -7,8 +7,8 @@ use crate::sheets::MOST_ROWS;
 use arrayvec::ArrayVec;
 use controls::events::Event;
 
-// How every part of a run is worked out: what each event waits for, and the events in an order in which each comes after those of
-// its own part that it needs.
+// How every part of a run is worked out: what each event waits for, and the events in an order in which each comes after
+// those of its own part that it needs.
 #[derive(Drop)]
 pub(crate) struct Plan {
     pub(crate) table: WaitTable,

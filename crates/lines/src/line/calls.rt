@@ -26,7 +26,9 @@ fn no_line(stages: u32, stations: u32) -> bool
 impl<R: Row + Drop, C: Control + Drop> Line<R, C> {
     // The line of these, if the stages are 1 to 8 and the row has a station for each.
     pub fn new(row: R, control: C, stages: u32) -> Result<Line<R, C>, LineFault>
-        ensures { MatchResult result (λ l. (l.row ≡ row) × (l.control ≡ control) × (l.stages ≡ stages) × (NoLine stages (length (R.Row.meanings row)) → ⊥))
+        ensures { MatchResult result
+            (λ l. (l.row ≡ row) × (l.control ≡ control) × (l.stages ≡ stages)
+            × (NoLine stages (length (R.Row.meanings row)) → ⊥))
             (λ e. (e ≡ faults.Stages) × NoLine stages (length (R.Row.meanings row))) }
     {
         if no_line(stages, row.len()) {
@@ -64,18 +66,22 @@ impl<R: Row, C: Control> Line<R, C> {
         Ok(())
     }
 
-    // Works out the booked parts with the counts of the board, from fresh stations. The sheet's first numbers become the rows pass,
-    // release and completion of each stage and delivery, each in part order. Answers how many parts miss their due minute, and the
-    // first of them.
+    // Works out the booked parts with the counts of the board, from fresh stations. The sheet's first numbers become the
+    // rows pass, release and completion of each stage and delivery, each in part order. Answers how many parts miss their
+    // due minute, and the first of them: two answers, as the rules of a run name them.
     pub fn run(
         &mut self,
         book: &Book,
         board: &Board,
         sheet: &mut [u32],
     ) -> Result<(u32, Option<PartNo>), LineFault>
-        ensures ran { Ran (shop_of (C.Control.meaning self.old.control) self.old.stages (R.Row.meanings self.old.row)) book.now.parts.items board.now.counts.items sheet.old (R.Row.meanings self.old.row) result sheet.new (R.Row.meanings self.new.row) }
+        ensures ran { Ran (shop_of (C.Control.meaning self.old.control) self.old.stages (R.Row.meanings self.old.row))
+            book.now.parts.items board.now.counts.items sheet.old (R.Row.meanings self.old.row) result
+            sheet.new (R.Row.meanings self.new.row) }
         ensures same { (self.new.control ≡ self.old.control) × (self.new.stages ≡ self.old.stages) }
-        ensures later { MoreCardsNothingLater (shop_of (C.Control.meaning self.old.control) self.old.stages (R.Row.meanings self.old.row)) book.now.parts.items board.now.counts.items result sheet.new }
+        ensures later { MoreCardsNothingLater
+            (shop_of (C.Control.meaning self.old.control) self.old.stages (R.Row.meanings self.old.row))
+            book.now.parts.items board.now.counts.items result sheet.new }
     {
         let cards = Cards {
             stages: self.stages,
