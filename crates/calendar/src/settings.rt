@@ -13,16 +13,25 @@ pub enum Piece {
     Week,
 }
 
-impl fmt::Display for Piece {
-    ghost output = { λ p. Some (piece_word p) };
-
-    fn fmt<W: fmt::Write>(&self, f: &mut fmt::Formatter<W>) -> fmt::Result {
-        f.write_str(match self {
+impl Piece {
+    // The word for the piece.
+    pub fn word(self) -> &'static str
+        ensures { result.now ≡ piece_word self }
+    {
+        match self {
             Piece::Machine => "machine",
             Piece::Oven => "oven",
             Piece::Move => "move",
             Piece::Week => "week",
-        })
+        }
+    }
+}
+
+impl fmt::Display for Piece {
+    ghost output = { λ p. Some (piece_word p) };
+
+    fn fmt<W: fmt::Write>(&self, f: &mut fmt::Formatter<W>) -> fmt::Result {
+        f.write_str(self.word())
     }
 }
 
