@@ -109,6 +109,7 @@ impl fmt::Display for SettingFault {
 }
 
 // Lets a setting pass that lies from `low` to `high`.
+// Two numbers, no range: for a range that ran out, `contains` leaves out the end, and the promise did not close.
 pub fn on_range(
     piece: Piece,
     position: u32,
@@ -118,7 +119,7 @@ pub fn on_range(
 ) -> Result<(), SettingFault>
     ensures { result ≡ (if off low high value then Err (OffRange piece position value) else Ok tt) }
 {
-    if value < low || value > high {
+    if !(low..=high).contains(&value) {
         return Err(SettingFault::OffRange {
             piece,
             position,
