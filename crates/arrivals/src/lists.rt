@@ -43,7 +43,7 @@ impl From<FormFault> for LineFault {
     }
 }
 
-// Why a line is none of an arrival list, in words.
+// The words that tell why a line does not belong in an arrival list.
 impl fmt::Display for LineFault {
     ghost output = { λ e. Some (line_reason e) };
 
@@ -112,8 +112,8 @@ fn stage_line<'f>(cursor: &mut Cursor<'f>) -> Result<StageForm<'f>, LineFault>
     Ok(lines::read_stage_line(line)?)
 }
 
-// The entry of the line that is next, of which some byte is there. Not one function with `stage_line`: a reader that is
-// passed in would need its promise as a `requires`, which is no plainer.
+// The entry of the line that is next, of which some byte is there.
+// Not one function with `stage_line`: a reader passed in would need its promise as a `requires`, no plainer.
 fn entry_line(cursor: &mut Cursor<'_>) -> Result<Entry, LineFault>
     requires { 0 < length (left cursor.old) }
     ensures { MatchResult result (λ d. Reading EntryFits entry_ended (left cursor.old) (left cursor.new) d)

@@ -12,7 +12,7 @@ pub enum HouseWeek {
     Early,
 }
 
-// A name that is none of a house week.
+// The fault of a name that names no house week.
 #[derive(Clone, Copy, PartialEq, Eq, Debug)]
 pub struct UnknownWeek;
 

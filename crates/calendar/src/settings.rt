@@ -13,16 +13,25 @@ pub enum Piece {
     Week,
 }
 
-impl fmt::Display for Piece {
-    ghost output = { λ p. Some (piece_word p) };
-
-    fn fmt<W: fmt::Write>(&self, f: &mut fmt::Formatter<W>) -> fmt::Result {
-        f.write_str(match self {
+impl Piece {
+    // The word for the piece.
+    pub fn word(self) -> &'static str
+        ensures { result.now ≡ piece_word self }
+    {
+        match self {
             Piece::Machine => "machine",
             Piece::Oven => "oven",
             Piece::Move => "move",
             Piece::Week => "week",
-        })
+        }
+    }
+}
+
+impl fmt::Display for Piece {
+    ghost output = { λ p. Some (piece_word p) };
+
+    fn fmt<W: fmt::Write>(&self, f: &mut fmt::Formatter<W>) -> fmt::Result {
+        f.write_str(self.word())
     }
 }
 
@@ -100,6 +109,7 @@ impl fmt::Display for SettingFault {
 }
 
 // Lets a setting pass that lies from `low` to `high`.
+// Two numbers, no range: for a range that ran out, `contains` leaves out the end, and the promise did not close.
 pub fn on_range(
     piece: Piece,
     position: u32,
@@ -109,7 +119,7 @@ pub fn on_range(
 ) -> Result<(), SettingFault>
     ensures { result ≡ (if off low high value then Err (OffRange piece position value) else Ok tt) }
 {
-    if value < low || value > high {
+    if !(low..=high).contains(&value) {
         return Err(SettingFault::OffRange {
             piece,
             position,

@@ -1,4 +1,4 @@
-// What the controls have in common.
+// The cards of a line, and the waits that several controls have by them.
 ghost use Rattle.std.specs.Prelude.{◌≡◌, ◌+◌, [], ◌∷◌};
 ghost use Rattle.stations.specs.Lists.{at};
 ghost use Rattle.controls.specs.Lists.{somes};
@@ -39,7 +39,7 @@ impl Cards<'_> {
     pub(crate) fn all_carded(&self, first: u32) -> bool
         ensures { result ≡ carded first self.now.counts.now self.now.stages }
     {
-        // Not 1..=n: the library lists the items of n..m alone, and the proof over 1..=n did not close.
+        // Not 1..=stages: the library lists the items of a range a..b alone, and this proof did not close.
         (1..self.stages as usize + 1).all(|i| self.count_at(first as usize + i) > 0)
     }
 

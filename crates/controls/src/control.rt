@@ -20,6 +20,8 @@ pub trait Control {
 
     // What the event waits for in the line with these cards. A completion, and an event that the line does not have,
     // has no waits.
+    // An array and no ArrayVec: an array is Copy, as the table of a plan is, and a vector of fixed capacity is not.
+    // Each control writes its arms out: one method over closures would have to state the promise of each, no plainer.
     fn waits(&self, cards: Cards<'_>, event: Event) -> [Option<Wait>; 3]
         ensures { somes result ≡ (meaning self.now).waits cards.entry.stages cards.entry.counts.now event };
 

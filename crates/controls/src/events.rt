@@ -4,7 +4,7 @@ ghost use Rattle.controls.specs.Words.{event_words, wait_words};
 use stations::numbers::StageNo;
 use std::fmt;
 
-// What happens to each part. Every line has a delivery.
+// What happens to each part. The delivery is the default, since it is the one event that every line has.
 #[derive(Clone, Copy, PartialEq, Eq, Debug, Default)]
 pub enum Event {
     // The call is passed on to the stage.

@@ -28,7 +28,7 @@ impl Control for Extended {
 
     fn is_lawful(&self, cards: Cards<'_>) -> bool {
         let half = cards.stages as usize;
-        // Not 1..=half: as in Cards::all_carded, its proof did not close.
+        // Not 1..=half: as in `Cards::all_carded`, the proof did not close.
         (1..half + 1).all(|i| cards.count_at(i) > 0 || cards.count_at(half + i) > 0)
     }
 

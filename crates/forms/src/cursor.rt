@@ -16,17 +16,25 @@ pub enum FormFault {
     Layout,
 }
 
-// The reason in words.
-impl fmt::Display for FormFault {
-    ghost output = { λ e. Some (form_reason e) };
-
-    fn fmt<W: fmt::Write>(&self, f: &mut fmt::Formatter<W>) -> fmt::Result {
-        f.write_str(match self {
+impl FormFault {
+    // The reason in words.
+    pub fn reason(self) -> &'static str
+        ensures { result.now ≡ form_reason self }
+    {
+        match self {
             FormFault::NotANumber => "not a number",
             FormFault::NotAWord => "not a word",
             FormFault::UnknownWord => "unknown word",
             FormFault::Layout => "not of the form",
-        })
+        }
+    }
+}
+
+impl fmt::Display for FormFault {
+    ghost output = { λ e. Some (form_reason e) };
+
+    fn fmt<W: fmt::Write>(&self, f: &mut fmt::Formatter<W>) -> fmt::Result {
+        f.write_str(self.reason())
     }
 }
 
@@ -84,7 +92,8 @@ impl<'f> Cursor<'f> {
         Ok(())
     }
 
-    // Goes past the bracket and the word `name`, with which a form opens. A space follows.
+    // Goes past the bracket and the word `name`, with which a form opens. Of a text that goes on so, but not with a space
+    // after the word, a failure says nothing.
     pub fn opening(&mut self, name: &[u8]) -> Result<(), FormFault>
         ensures { MatchResult result (λ _. left self.old ≡ codes "(" ++ (name.now ++ left self.new))
             (λ _. Word name.now → (x : List ℕ) → left self.old ≢ codes "(" ++ (name.now ++ (codes " " ++ x))) }

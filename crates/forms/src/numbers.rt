@@ -2,7 +2,8 @@ ghost use Rattle.std.specs.Prelude.{◌≡◌, ◌≤◌, length, MatchOption};
 ghost use Rattle.std.specs.Str.Parse.{digits_value};
 ghost use Rattle.forms.specs.Forms.{Each, Front, Numbered, OnlyNumber, Numberless};
 
-// How many digits `text` begins with. Digits and letters are counted apart: each byte is matched against a literal range.
+// How many digits `text` begins with.
+// Digits and letters are counted apart: a byte is matched, as a character, against literal cases, not a parameter.
 fn digits(text: &[u8]) -> usize
     ensures { Front 48 57 text.now result }
 {

@@ -2,6 +2,7 @@ ghost use Rattle.std.specs.Option.{MatchOption};
 ghost use Rattle.forms.specs.Forms.{Front, Worded, OnlyWord, Wordless};
 
 // How many small letters `text` begins with.
+// Digits and letters are counted apart: a byte is matched, as a character, against literal cases, not a parameter.
 fn letters(text: &[u8]) -> usize
     ensures { Front 97 122 text.now result }
 {

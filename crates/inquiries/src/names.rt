@@ -1,4 +1,4 @@
-ghost use Rattle.std.specs.Prelude.{Some};
+ghost use Rattle.std.specs.Prelude.{◌≡◌, Some};
 ghost use Rattle.forms.specs.Reading.{ReadsWord};
 ghost use Rattle.inquiries.specs.Names.{control_name};
 
@@ -30,15 +30,24 @@ impl TryFrom<&[u8]> for ControlName {
     }
 }
 
-impl fmt::Display for ControlName {
-    ghost output = { λ k. Some (control_name k) };
-
-    fn fmt<W: fmt::Write>(&self, f: &mut fmt::Formatter<W>) -> fmt::Result {
-        f.write_str(match self {
+impl ControlName {
+    // The control's name.
+    pub fn word(self) -> &'static str
+        ensures { result.now ≡ control_name self }
+    {
+        match self {
             ControlName::Base => "base",
             ControlName::Kanban => "kanban",
             ControlName::General => "general",
             ControlName::Extended => "extended",
-        })
+        }
+    }
+}
+
+impl fmt::Display for ControlName {
+    ghost output = { λ k. Some (control_name k) };
+
+    fn fmt<W: fmt::Write>(&self, f: &mut fmt::Formatter<W>) -> fmt::Result {
+        f.write_str(self.word())
     }
 }

@@ -1,6 +1,7 @@
 use stations::loading::LoadFault;
 
 // What an entry of an arrival list comes to.
+// `Leaves` and `Refused` are two cases, and no `Result` in one: each case is a line that is told.
 #[derive(Clone, Copy)]
 pub enum Answer {
     // The part leaves at `departure`.

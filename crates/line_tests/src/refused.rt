@@ -10,13 +10,11 @@ use std::test::*;
 
 // A line of so many machines is not made with so many stages.
 fn not_made(rt: &(impl Abort + AllocGlobal), stations: u32, stages: u32) -> Result<(), Fail> {
-    match Line::new(bank(rt, stations)?, Kanban, stages) {
-        Ok(_) => Err(Fail::new("it is made")),
-        Err(fault) => {
-            assert_eq!(rt; fault, LineFault::Stages);
-            Ok(())
-        }
-    }
+    assert_eq!(rt;
+        Line::new(bank(rt, stations)?, Kanban, stages).err(),
+        Some(LineFault::Stages)
+    );
+    Ok(())
 }
 
 #[test]

@@ -51,6 +51,7 @@ pub(crate) fn sample_row() -> Result<SampleRow, SettingFault> {
 }
 
 // Tells what the row is made of.
+// Written out, and not from the row: it tells one sample in words of its own, as "1 place" beside "2 places".
 pub(crate) fn tell_row(rt: &HostRuntime) -> io::Result<()> {
     println!(rt; "station 1: machine of 1 place, 20 minutes")?;
     println!(rt; "station 2: oven of 2 places, cycle 30, bake 25, move 5")?;

@@ -34,6 +34,7 @@ fn shift_in_week(position: u32, shift: Shift) -> Result<(), SettingFault>
 }
 
 // Lets shifts pass that all begin and end inside the week.
+// At most 16 bounds their positions, here and below; a type for it would be named in this file alone.
 fn all_in_week(shifts: &[Shift]) -> Result<(), SettingFault>
     requires { length shifts.now ≤ 16 }
     ensures { option_map told (result_err result) ≡ first_past 1 shifts.now }
