@@ -14,7 +14,7 @@ pub enum Piece {
 }
 
 impl Piece {
-    // The word for the piece.
+    // The word for the piece, beside the `Display`, since it cannot fail.
     pub fn word(self) -> &'static str
         ensures { result.now ≡ piece_word self }
     {

@@ -17,7 +17,7 @@ pub enum FormFault {
 }
 
 impl FormFault {
-    // The reason in words.
+    // The reason in words, beside the `Display`, since it cannot fail.
     pub fn reason(self) -> &'static str
         ensures { result.now ≡ form_reason self }
     {

@@ -20,6 +20,7 @@ pub enum CoreForm {
 // What the line of a stage says.
 #[derive(Clone, Copy)]
 pub struct StageForm<'f> {
+    // a part of the file's bytes
     pub name: &'f [u8],
     pub core: CoreForm,
     // the minutes of `(move t)`

@@ -31,7 +31,7 @@ impl TryFrom<&[u8]> for ControlName {
 }
 
 impl ControlName {
-    // The control's name.
+    // The control's name, beside the `Display`, since it cannot fail.
     pub fn word(self) -> &'static str
         ensures { result.now ≡ control_name self }
     {

@@ -18,7 +18,7 @@ use std::process::ExitCode;
 // More than any inquiry has.
 const MOST_READ: u64 = 1_024;
 
-// Tells what one event waits for.
+// Tells what one event waits for. A struct of handle, control and cards would be named in three functions alone.
 fn tell_event<C: Control>(
     rt: &HostRuntime,
     control: &C,
