@@ -82,7 +82,7 @@ begun_more N waits es e begun follows = record {
       ];
 }
 
--- what next_ready found follows
+-- what was found next follows
 pub follows_next : (N : ℕ) (waits : Event → List Wait) (flags : List Bool) (es : List Event) (e : Event) → Shows N flags es →
     ((e : Event) → InLine N e → Waits e → AllByRecursion (SourceIn N) (waits e)) → InLine N e → placed_by N flags e ≡ false → Ready waits (placed_by N flags) e → Follows N waits es e
 follows_next N waits flags es e tells inside e_in new ready = record {

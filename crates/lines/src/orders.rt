@@ -9,7 +9,8 @@ use crate::sheets::MOST_ROWS;
 use arrayvec::ArrayVec;
 use controls::events::{Event, Wait};
 
-// An order of a part's events under way: which are placed, by the rows of the sheet, and how they follow one another so far.
+// An order of a part's events under way: which are placed, by the rows of the sheet, and how they follow so far.
+// The flags lie beside the waits and not with them: they are of one search, the waits of the whole plan.
 #[derive(Drop)]
 pub(crate) struct Placing<'t> {
     table: &'t WaitTable,

@@ -46,7 +46,7 @@ impl Stages {
     }
 }
 
-// Row and sheet are two `&mut`: a struct of both would say in each contract that it holds the same ones still.
+// Two `&mut` and a width: a struct of row and sheet would say in each contract that it holds the same ones still.
 impl Plan {
     // Works out an event of the plan for the part.
     fn place_event<R: Row>(&self, row: &mut R, sheet: &mut [u32], part: &Part<'_>, event: Event)
