@@ -49,7 +49,7 @@ impl<'f> Cursor<'f> {
     pub fn number(&mut self) -> Result<u32, FormFault>
         ensures { MatchResult result
             (λ n. Numbered n (left self.new) (left self.old) × OnlyNumber n (left self.new) (left self.old))
-            (λ e. (e ≡ FormFault.NotANumber) × Numberless (left self.old)) }
+            (λ e. (e ≡ FormFault.NotANumber) × Numberless (left self.old) × (left self.new ≡ left self.old)) }
     {
         let (n, rest) = numbers::number(self.rest).ok_or(FormFault::NotANumber)?;
         self.rest = rest;
@@ -60,7 +60,7 @@ impl<'f> Cursor<'f> {
     pub fn word(&mut self) -> Result<&'f [u8], FormFault>
         ensures { MatchResult result
             (λ w. Worded w.now (left self.new) (left self.old) × OnlyWord w.now (left self.new) (left self.old))
-            (λ e. (e ≡ FormFault.NotAWord) × Wordless (left self.old)) }
+            (λ e. (e ≡ FormFault.NotAWord) × Wordless (left self.old) × (left self.new ≡ left self.old)) }
     {
         let (word, rest) = words::word(self.rest).ok_or(FormFault::NotAWord)?;
         self.rest = rest;
@@ -84,7 +84,7 @@ impl<'f> Cursor<'f> {
     // Goes past `c`, which must be next.
     pub fn expect(&mut self, c: char) -> Result<(), FormFault>
         ensures { MatchResult result (λ _. left self.old ≡ c ∷ left self.new)
-            (λ e. (e ≡ FormFault.Layout) × ((x : List ℕ) → left self.old ≢ c ∷ x)) }
+            (λ e. (e ≡ FormFault.Layout) × ((x : List ℕ) → left self.old ≢ c ∷ x) × (left self.new ≡ left self.old)) }
     {
         if !self.accept(c) {
             return Err(FormFault::Layout);
@@ -107,7 +107,7 @@ impl<'f> Cursor<'f> {
 
     // The next line, without the byte 10 that ends it.
     pub fn line(&mut self) -> Option<&'f [u8]>
-        ensures { MatchOption result (Lineless (left self.old))
+        ensures { MatchOption result (Lineless (left self.old) × (left self.new ≡ left self.old))
             (λ l. Lined l.now (left self.new) (left self.old) × OnlyLine l.now (left self.new) (left self.old)) }
     {
         let (line, rest) = lines::line(self.rest)?;

@@ -8,7 +8,7 @@ use Rattle.arrivals.proofs.lists.entry_line.Goals as goal
 
 pub returns-in_err-line : goal.returns-in_err-line
 returns-in_err-line c =
-    let out : Lineless (left c.args.cursor.now) = rw c.in_err-line.ensures.ok_part at c.line.ensures in
+    let out : Lineless (left c.args.cursor.now) = (rw c.in_err-line.ensures.ok_part at c.line.ensures).0 in
     search (rules, lineless_none EntryFits entry_written entry_endless out, out)
 
 pub returns-in_err-read_entry_line : goal.returns-in_err-read_entry_line
