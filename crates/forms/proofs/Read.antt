@@ -1,15 +1,16 @@
 -- Numbers, read from the front of a text.
-use Rattle.std.proofs.Common.{◌≡◌, ℕ, ◌+◌, ◌-◌, ◌*◌, ◌^◌, ◌<◌, ◌≤◌, List, ◌∷◌, ◌++◌, length, get_or, take, drop, decimal, sym, ap, ◌∙◌, subst, arith}
+use Rattle.std.proofs.Common.{◌≡◌, ℕ, ◌+◌, ◌-◌, ◌*◌, ◌^◌, ◌<◌, ◌≤◌, min, List, ◌∷◌, ◌++◌, length, get_or, take, drop, decimal, length-take, length-append, sym, ap, ◌∙◌, subst, arith}
 use Rattle.std.specs.Str.Parse.{digits_value}
-use Rattle.std.proofs.lemmas.List.{take-append-drop, get_or_append_left, length-take-le, get_or-take}
+use Rattle.std.proofs.lemmas.List.{take-append-drop, get_or_append_left, get_or-append-add, length-take-le, get_or-take}
 use Rattle.std.proofs.lemmas.Str.Parse.{IsNumeralModel, numerals_by_value, tells_by_index, digits_value_short}
 use Rattle.std.proofs.lemmas.Fmt.{decimal-digits_value, digits_decimal, length-decimal-le, decimal_nonempty, first_decimal, decimal_digit, decimal_injective}
 use Rattle.std.proofs.lemmas.Int.Digits.{digits_value_more}
 use Rattle.std.proofs.lemmas.Bool.Decides.{nat_tests}
+use Rattle.std.proofs.Math.Decide.{dec_le}
 use Rattle.std.specs.Char.{digit_value}
 use Rattle.std.specs.Int.{IsInRange}
 use Rattle.forms.specs.Forms.{Each, Front, Numbered, OnlyNumber}
-use Rattle.forms.proofs.Spelled.{same_run, front_each, front_ends, front_same}
+use Rattle.forms.proofs.Spelled.{same_run, front_each, front_ends, front_same, front_whole}
 
 pub own : IsNumeralModel (Each 48 57) (digits_value 10)
 own = numerals_by_value (Each 48 57) tells_by_index
@@ -46,6 +47,27 @@ digits_plain text n m t f h =
           let is0 : m ≡ 0 = omega arith in
           sym e ∙ ap (λ k. length (decimal k)) is0 ∙ ap length (decimal_digit 0 (omega arith)),
     )
+
+-- the same of the digits among the first 8 bytes
+pub digits_seen : (text seen : List ℕ) (k n m : ℕ) (t : List ℕ) → k ≡ min (length text) 8 → seen ≡ take k text → Front 48 57 seen n → Numbered m t text
+    → (0 < n) × (n ≤ 7) × (get_or text 0 0 ≡ 48 → n ≡ 1)
+digits_seen text seen k n m t room e f h =
+    elim (dec_le n 7) [
+      | yes few ↦ digits_plain text n m t (front_whole text seen k n e f (λ more. omega arith)) h
+      | no many ↦ let more : digits < n = omega (arith, short) in
+          let seen_long = ap length e ∙ length-take k text in
+          let long : length text ≡ digits + length t = ap length h.2 ∙ length-append (decimal m) t in
+          let next : get_or seen digits 0 ≡ get_or t 0 0 =
+          ap (λ (x : List ℕ). get_or x digits 0) e ∙ get_or-take k text digits 0 (omega (arith, f.within, seen_long))
+          ∙ ap (λ (x : List ℕ). get_or x digits 0) h.2 ∙ ap (λ i. get_or (decimal m ++ t) i 0) (omega arith) ∙ get_or-append-add (decimal m) t 0 0 in
+          absurd (h.1 (omega (arith, f.within, seen_long, long)) (subst (IsInRange 48 57) next (f.each digits more)))
+    ]
+  where
+    digits : ℕ
+    digits = length (decimal m)
+
+    short : digits ≤ 7
+    short = length-decimal-le 7 m (omega arith) h.0 (omega (arith, h.0))
 
 -- a text begins with one number at most
 pub sole : (text : List ℕ) (m : ℕ) (s : List ℕ) (n : ℕ) (t : List ℕ) → Numbered m s text → Numbered n t text → (m ≡ n) × (s ≡ t)

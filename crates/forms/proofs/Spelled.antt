@@ -1,5 +1,5 @@
 -- Words, read from the front of a text.
-use Rattle.std.proofs.Common.{◌≡◌, ℕ, suc, ◌<◌, ◌≤◌, List, [], ◌∷◌, ◌++◌, length, get_or, take, drop, sym, refl, ap, ◌∙◌, subst, suc-le-suc, zero-le, arith}
+use Rattle.std.proofs.Common.{◌≡◌, ℕ, suc, ◌<◌, ◌≤◌, List, [], ◌∷◌, ◌++◌, length, get_or, take, drop, length-take, sym, refl, ap, ◌∙◌, subst, suc-le-suc, zero-le, arith}
 use Rattle.std.specs.Int.{IsInRange}
 use Rattle.std.proofs.lemmas.List.{take-append-drop, length-take-le, get_or-take, get_or-drop, length-drop}
 use Rattle.std.proofs.ByRecursion.{All-get_or, All-from_get_or}
@@ -27,6 +27,17 @@ front_each {lo} {hi} text n h i l =
 pub front_ends : {lo hi : ℕ} (text : List ℕ) (n : ℕ) → Front lo hi text n → Ends lo hi (drop n text)
 front_ends {lo} {hi} text n h more d =
     h.stops (omega (arith, length-drop n text)) (subst (IsInRange lo hi) (get_or-drop n text 0 0 ∙ ap (λ k. get_or text k 0) (omega arith)) d)
+
+-- the front of the first k bytes is that of the whole text, unless it may go on past them
+pub front_whole : {lo hi : ℕ} (text seen : List ℕ) (k n : ℕ) → seen ≡ take k text → Front lo hi seen n → (n < length text → n < k) → Front lo hi text n
+front_whole {lo} {hi} text seen k n e h l = record {
+  within = omega (arith, h.within, length-take k text, ap length e);
+  each = λ i m. subst (IsInRange lo hi) (same i (omega (arith, h.within, length-take k text, ap length e))) (h.each i m);
+  stops = λ more d. h.stops (omega (arith, l more, length-take k text, ap length e)) (subst (IsInRange lo hi) (sym (same n (l more))) d);
+}
+  where
+    same : (i : ℕ) → i < k → get_or seen i 0 ≡ get_or text i 0
+    same i m = ap (λ (x : List ℕ). get_or x i 0) e ∙ get_or-take k text i 0 m
 
 -- a text is cut after its front in one way
 pub front_same : {lo hi : ℕ} (text : List ℕ) (n : ℕ) (p rest : List ℕ) → Front lo hi text n → Each lo hi p → Ends lo hi rest → text ≡ p ++ rest → (take n text ≡ p) × (drop n text ≡ rest)

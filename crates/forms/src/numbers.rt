@@ -27,12 +27,13 @@ fn value(digits: &[u8]) -> u32
 }
 
 // The number that `text` begins with, of 1 to 7 digits and with no needless 0 in front, and what follows it.
-#[tactic(auto, using(crate::proofs::Read::digits_plain))]
 pub fn number<'f>(text: &'f [u8]) -> Option<(u32, &'f [u8])>
     ensures { MatchOption result (Numberless text.now)
         (λ p. Numbered p.0 p.1.now text.now × OnlyNumber p.0 p.1.now text.now) }
 {
-    let count = digits(text);
+    // No number has more than 7 digits, so 8 bytes tell.
+    let (front, _) = text.split_at(text.len().min(8));
+    let count = digits(front);
     if count == 0 || count > 7 {
         return None;
     }
