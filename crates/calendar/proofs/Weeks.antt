@@ -1,7 +1,8 @@
 -- The look-ups of a week: counted minute by minute, shift by shift, and back.
-use Rattle.std.proofs.Common.{◌≡◌, ℕ, zero, suc, ◌+◌, ◌-◌, ◌*◌, ◌/◌, ◌%◌, ◌^◌, ◌<◌, ◌≤◌, min, true, cond, List, [], ◌∷◌, ◌++◌, length, get_or, take, refl, ap, ◌∙◌, mul-le-mul_right, mod-lt, add-mul, mul-le-mul_left, one-mul, div-add-mod', arith}
+use Rattle.std.proofs.Common.{◌≡◌, ℕ, zero, suc, ◌+◌, ◌-◌, ◌*◌, ◌/◌, ◌%◌, ◌^◌, ◌<◌, ◌≤◌, min, true, cond, List, [], ◌∷◌, ◌++◌, length, get_or, take, drop, refl, ap, ◌∙◌, mul-le-mul_right, mod-lt, add-mul, mul-le-mul_left, one-mul, div-add-mod', arith}
 use native.Mathlib.Decide.{dec_le}
 use Rattle.std.proofs.Math.Seq.{take-append_seam}
+use Rattle.std.proofs.lemmas.List.{drop_more}
 use Rattle.std.proofs.lemmas.List.Sums.{sum_by-cons}
 use Rattle.std.proofs.lemmas.Bool.Decides.{nat_tests}
 use Rattle.calendar.specs.Week.{ordered, open_at, open_before, opened, total, reached, time_by}
@@ -146,17 +147,32 @@ worked_le ss t o =
     let k : t / 10080 * total ss ≤ t / 10080 * 10080 = mul-le-mul_left (t / 10080) (omega (arith, total_le 0 ss o)) in
     omega (arith, opened_le 0 (t % 10080) ss o)
 
-pub opened_fits : (ss : List Shift) (t : ℕ) → ordered 0 ss ≡ true → opened ss t < 2 ^ 32
-opened_fits ss t o = omega (arith, opened_le_total t ss, total_le 0 ss (in_order 0 ss o))
+-- one shift of a walk through the shifts
+pub reached_step_here :
+    (ss : List Shift) (i r : ℕ) (d : Shift) → i < length ss → r ≤ (get_or ss i d).end - (get_or ss i d).begin
+    → reached (drop i ss) r ≡ (get_or ss i d).begin + r
+reached_step_here ss i r d h k = ap (λ l. reached l r) (drop_more ss i d h) ∙ reached_here (get_or ss i d) (drop (i + 1) ss) r k
+
+pub reached_step_past :
+    (ss : List Shift) (i r : ℕ) (d : Shift) → i < length ss → (get_or ss i d).end - (get_or ss i d).begin < r
+    → reached (drop i ss) r ≡ reached (drop (i + 1) ss) (r - ((get_or ss i d).end - (get_or ss i d).begin))
+reached_step_past ss i r d h k = ap (λ l. reached l r) (drop_more ss i d h) ∙ reached_past (get_or ss i d) (drop (i + 1) ss) r k
 
 -- each shift ends at or before the end of the week, and after it begins
-fits_from : (low : ℕ) (ss : List Shift) (i : ℕ) (d : Shift) → Ordered low ss → i < length ss → ((get_or ss i d).begin < (get_or ss i d).end) × ((get_or ss i d).end ≤ 10080)
-fits_from low [] i d o h = absurd (omega arith)
-fits_from low (s ∷ ss) zero d o h = (o.1, o.2)
-fits_from low (s ∷ ss) (suc i) d o h = fits_from (suc s.end) ss i d o.3 (omega arith)
+pub shift_fits : (low : ℕ) (ss : List Shift) (i : ℕ) (d : Shift) → Ordered low ss → i < length ss → ((get_or ss i d).begin < (get_or ss i d).end) × ((get_or ss i d).end ≤ 10080)
+shift_fits low [] i d o h = absurd (omega arith)
+shift_fits low (s ∷ ss) zero d o h = (o.1, o.2)
+shift_fits low (s ∷ ss) (suc i) d o h = shift_fits (suc s.end) ss i d o.3 (omega arith)
 
-pub shift_fits : (ss : List Shift) (i : ℕ) (d : Shift) → ordered 0 ss ≡ true → i < length ss → ((get_or ss i d).begin ≤ (get_or ss i d).end) × ((get_or ss i d).end ≤ 10080)
-shift_fits ss i d o h = let f = fits_from 0 ss i d (in_order 0 ss o) h in (omega arith, f.1)
+pub opened_fits : (ss : List Shift) (t : ℕ) → Ordered 0 ss → opened ss t ≤ 10080
+opened_fits ss t o = omega (arith, opened_le_total t ss, total_le 0 ss o)
+
+-- the same of shifts that were tested
+pub tested_shift_fits : (ss : List Shift) (i : ℕ) (d : Shift) → ordered 0 ss ≡ true → i < length ss → ((get_or ss i d).begin ≤ (get_or ss i d).end) × ((get_or ss i d).end ≤ 10080)
+tested_shift_fits ss i d o h = let f = shift_fits 0 ss i d (in_order 0 ss o) h in (omega (arith, f.0), f.1)
+
+pub tested_opened_fits : (ss : List Shift) (t : ℕ) → ordered 0 ss ≡ true → opened ss t < 2 ^ 32
+tested_opened_fits ss t o = omega (arith, opened_fits ss t (in_order 0 ss o))
 
 opened_ended : (low t : ℕ) (ss : List Shift) → Ordered low ss → 10080 ≤ t → opened ss t ≡ total ss
 opened_ended low t [] o h = refl

@@ -1,5 +1,5 @@
 -- Numbers, read from the front of a text.
-use Rattle.std.proofs.Common.{◌≡◌, ℕ, ◌+◌, ◌-◌, ◌*◌, ◌^◌, ◌<◌, ◌≤◌, min, List, ◌∷◌, ◌++◌, length, get_or, take, drop, decimal, length-take, length-append, sym, ap, ◌∙◌, subst, arith}
+use Rattle.std.proofs.Common.{◌≡◌, ℕ, ◌+◌, ◌-◌, ◌*◌, ◌^◌, ◌<◌, ◌≤◌, min, List, ◌∷◌, ◌++◌, length, get_or, take, drop, decimal, length-take, length-append, sym, ap, ◌∙◌, subst, arith, below_more}
 use Rattle.std.specs.Str.Parse.{digits_value}
 use Rattle.std.proofs.lemmas.List.{take-append-drop, get_or_append_left, get_or-append-add, length-take-le, get_or-take}
 use Rattle.std.proofs.lemmas.Str.Parse.{IsNumeralModel, numerals_by_value, tells_by_index, digits_value_short}
@@ -31,6 +31,22 @@ digits_more ds i each l =
     let here : IsInRange 48 57 (get_or ds i 0) = each i l in
     let v : digit_value (get_or ds i 0) ≡ get_or ds i 0 - 48 = grind (arith, nat_tests) in
     omega (arith, digits_value_more 10 ds i l)
+
+-- the first `at` bytes of `text` are digits that write n; they are 8 at most
+pub record Begun (text : List ℕ) (at n : ℕ) : Type 0 where
+  pub within : at ≤ length text
+  pub few : at ≤ 8
+  pub digit : (i : ℕ) → i < at → IsInRange 48 57 (get_or text i 0)
+  pub is : n ≡ digits_value 10 (take at text)
+
+pub begun_more : (text : List ℕ) (at n d : ℕ) → Begun text at n → at < length text → at < 8 → IsInRange 48 57 (get_or text at 0) → d ≡ get_or text at 0 - 48 → Begun text (at + 1) (n * 10 + d)
+begun_more text at n d b l few here is = record {
+  within = omega arith;
+  few = omega arith;
+  digit = below_more _ _ b.digit here;
+  is = let v : digit_value (get_or text at 0) ≡ get_or text at 0 - 48 = grind (arith, nat_tests) in
+      omega (arith, b.is, digits_value_more 10 text at l);
+}
 
 -- a number's digits are 1 to 7, with no needless 0 in front
 pub digits_plain : (text : List ℕ) (n m : ℕ) (t : List ℕ) → Front 48 57 text n → Numbered m t text → (0 < n) × (n ≤ 7) × (get_or text 0 0 ≡ 48 → n ≡ 1)

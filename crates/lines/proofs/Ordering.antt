@@ -103,6 +103,11 @@ in_order N told flags es kept tells begun stuck = record {
 abbrev pub Turn : ℕ → (Event → List Wait) → List Bool → List Event → Type 0
 Turn N waits flags es = (length flags ≡ 25) × (length es + downs flags ≡ 25) × Shows N flags es × Begun N waits es
 
+-- of an event found next the flag is down, and goes up
+pub turn_down : (N : ℕ) (waits : Event → List Wait) (flags : List Bool) (es : List Event) (e : Event) (r : ℕ) → Turn N waits flags es →
+    Next N waits (placed_by N flags) (Some e) → r ≡ row_of N e → r < 25 → downs (set flags r true) + 1 ≡ downs flags
+turn_down N waits flags es e r t found is lt = downs_set flags r (omega (arith, t.0)) (ap (λ x. get_or flags x false) is ∙ found.1)
+
 -- an event found next stands in a row that the flags have
 row_in : (N r : ℕ) (e : Event) → N ≤ 8 → InLine N e → r ≡ row_of N e → r < 25
 row_in N r e few e_in is = let f = row_few N e e_in in omega arith
@@ -113,7 +118,7 @@ module _ (N : ℕ) (few : N ≤ 8) (waits : Event → List Wait) (flags : List B
   lt = row_in N r e few found.0 is
 
   down : downs (set flags r true) + 1 ≡ downs flags
-  down = downs_set flags r (omega (arith, lt, t.0)) (ap (λ x. get_or flags x false) is ∙ found.1)
+  down = turn_down N waits flags es e r t found is lt
 
   pub fewer_down : downs (set flags r true) < downs flags
   fewer_down = omega (arith, down)

@@ -43,7 +43,7 @@ module _ {N : ℕ} {waits : Event → List Wait} (steps : Steps N waits)
   below_all zero e e_in h = absurd (not-suc-le-zero h)
   below_all (suc k) e e_in h = one_more k (below_all k) e e_in h
 
-  all_placed : (e : Event) → InLine N e → p e ≡ true
+  pub all_placed : (e : Event) → InLine N e → p e ≡ true
   unfolding Below
   all_placed e e_in = below_all (suc (steps.step e)) e e_in (lt-suc_self (steps.step e))
 

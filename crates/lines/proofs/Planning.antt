@@ -13,7 +13,7 @@ use Rattle.ledger.specs.declared.book.Book.{Book}
 use Rattle.lines.specs.Missed.{calls}
 
 -- the calls of a book never fall
-calls_rise :
+pub calls_rise :
     (bs : List Booking) → ((k : ℕ) (d : Booking) → k < length bs → ((get_or bs k d).call ≤ (get_or bs k d).due) × ((get_or bs k d).due < E))
     → ((k : ℕ) (d : Booking) → k + 1 < length bs → (get_or bs k d).call ≤ (get_or bs (k + 1) d).call) → (low : ℕ)
     → ((d : Booking) → 0 < length bs → low ≤ (get_or bs 0 d).call) → Rising low (calls bs)

@@ -1,5 +1,5 @@
 -- What a load of a row answers, and what its stations mean when they are made fresh.
-use Rattle.std.specs.Prelude.{◌≡◌, ℕ, zero, suc, ◌+◌, ◌-◌, ◌<◌, ◌≤◌, List, [], ◌∷◌, ◌++◌, map, length, take, Ok, Err, Result, MatchResult, IsErrAnd, slice_index_or, slice_set, refl}
+use Rattle.std.specs.Prelude.{◌≡◌, ℕ, zero, suc, ◌+◌, ◌-◌, ◌<◌, ◌≤◌, ◌⊎◌, List, [], ◌∷◌, ◌++◌, map, length, take, Ok, Err, Result, MatchResult, IsErrAnd, slice_index_or, slice_set, refl}
 use Rattle.std.proofs.Common.{sym, ap, ap₂, ◌∙◌, subst, inl, inr, ⊎_elim, arith, add-one}
 use Rattle.std.proofs.lemmas.List.{take-map, map-append}
 use Rattle.std.proofs.Math.Seq.{take-append_seam}
@@ -11,7 +11,7 @@ use Rattle.rows.specs.RowLoad.{RowLoaded, numbered}
 use Rattle.stations.specs.declared.numbers.StageNo.{StageNo}
 use Rattle.rows.specs.declared.loading.RowFault.{RowFault}
 use Rattle.rows.specs.declared.loading.RowFault.TheVariants.{NoStation, Refused}
-use Rattle.rows.specs.Numbering.{joined_length}
+use Rattle.rows.specs.Numbering.{joined_length, banked_length}
 
 pub joined_fresh :
     (ms ns ms' ns' : List Meaning) → ms' ≡ map freshened ms → ns' ≡ map freshened ns
@@ -106,6 +106,11 @@ banked_loads meaning ss n a s s' r one few h e l =
     at_take 64 (map meaning ss) (map meaning (slice_set ss (n - 1) s')) n a r few
     (subst P d (at_set meaning ss (n - 1) a s s' r (omega arith) e l))
 
+pub banked_absent : {S : Type 0} (meaning : S → Meaning) (ss : List S) (n : ℕ) → (n ≡ 0) ⊎ ((64 < n) ⊎ (length ss < n)) → Absent (banked meaning ss) n
+banked_absent meaning ss n (inl z) = inl z
+banked_absent meaning ss n (inr (inl z)) = inr (omega (arith, banked_length meaning ss))
+banked_absent meaning ss n (inr (inr z)) = inr (omega (arith, banked_length meaning ss))
+
 -- a load of a station, its fault under the station's number
 pub stationed :
     (ms ms' : List Meaning) (n : StageNo) (a : ℕ) (r : Result ℕ LoadFault) (q : Result ℕ RowFault)
@@ -145,10 +150,13 @@ fresh_all meaning (suc i) [] ys h f = absurd f
 fresh_all meaning (suc i) (x ∷ xs) [] h f = absurd f
 fresh_all meaning (suc i) (x ∷ xs) (y ∷ ys) h f = ap₂ (λ (m : Meaning) (ms : List Meaning). m ∷ ms) f.0 (fresh_all meaning i xs ys (omega arith) f.1)
 
+take_all : {S : Type 0} (n : ℕ) (ys zs : List S) → length ys ≡ n → take n (ys ++ zs) ≡ ys
+take_all n ys zs e = ap (λ k. take k (ys ++ zs)) (sym e) ∙ take-append_seam ys zs
+
 pub banked_fresh :
     {S : Type 0} (meaning : S → Meaning) (n i : ℕ) (xs xs' ys zs : List S) → xs' ≡ xs → length ys ≡ n → length xs' ≤ i → FreshTo meaning i xs' ys
     → banked meaning (take n (ys ++ zs)) ≡ map freshened (banked meaning xs)
 banked_fresh meaning n i xs xs' ys zs d e h f =
-    ap (banked meaning) (ap (λ k. take k (ys ++ zs)) (sym e) ∙ take-append_seam ys zs)
+    ap (banked meaning) (take_all n ys zs e)
     ∙ ap (take 64) (fresh_all meaning i xs' ys h f ∙ ap (λ l. map freshened (map meaning l)) d)
     ∙ take-map freshened 64 (map meaning xs)

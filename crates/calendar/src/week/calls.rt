@@ -84,7 +84,7 @@ fn opened_before(shifts: &[Shift], minute: u32) -> u32
 }
 
 // The minute of the week by which `work` open minutes have passed.
-#[tactic(auto, using(crate::proofs::Weeks::shift_fits))]
+#[tactic(auto, using(crate::proofs::Weeks::tested_shift_fits))]
 fn minute_by(shifts: &[Shift], work: u32) -> u32
     requires { (ordered 0 shifts.now ≡ true) × ((1 ≤ work) × (work ≤ total shifts.now)) }
     ensures { result ≡ reached shifts.now work }
@@ -133,7 +133,7 @@ const EARLY: [Shift; 5] = [
 ];
 
 // The week of shifts that make one.
-#[tactic(auto, using(crate::proofs::Weeks::opened_fits))]
+#[tactic(auto, using(crate::proofs::Weeks::tested_opened_fits))]
 fn week_of(shifts: &[Shift]) -> Week
     requires count { (1 ≤ length shifts.now) × (length shifts.now ≤ 16) }
     requires rising { ordered 0 shifts.now ≡ true }
@@ -183,7 +183,7 @@ impl Week {
     }
 
     // How many minutes are open before `time`.
-    #[tactic(auto, using(crate::proofs::Weeks::opened_fits, crate::proofs::Weeks::week_counts))]
+    #[tactic(auto, using(crate::proofs::Weeks::tested_opened_fits, crate::proofs::Weeks::week_counts))]
     pub fn open_before(&self, time: u32) -> u32
         ensures { result ≡ open_before (shifts_of self.now) time }
     {
