@@ -21,7 +21,7 @@ pub(crate) struct WaitTable {
     ghost orderly: { ∥ Orderly stages.count told ∥₁ },
 }
 
-// The waits of every event, by the rows of the sheet; those of the delivery again past the last row.
+// The waits of every event, by the rows of the sheet; none past the last row.
 fn told_by<C: Control>(control: &C, cards: Cards<'_>) -> [[Option<Wait>; 3]; MOST_ROWS]
     requires { cards.stages ≤ 8 }
     ensures { Tells cards.entry.stages
@@ -35,7 +35,13 @@ fn told_by<C: Control>(control: &C, cards: Cards<'_>) -> [[Option<Wait>; 3]; MOS
             ensures told { (e : EventType) → InLine stages.count e → row_of stages.count e ≡ row
                 → somes result ≡ (C.meaning control.entry.now).waits cards.entry.stages cards.entry.counts.now e }
             ensures few { length result ≤ 3 }
-        { control.waits(cards, stages.event_at(row)) },
+        {
+            if row < stages.rows() {
+                control.waits(cards, stages.event_at(row))
+            } else {
+                [None; 3]
+            }
+        },
     )
 }
 

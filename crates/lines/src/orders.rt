@@ -89,7 +89,7 @@ impl Placing<'_> {
         // A chain of `map` and `find` over the rows was tried, and its proof did not close.
         for row in 0..self.table.stages.rows() {
             let event = self.table.stages.event_at(row);
-            if !self.has(event) && self.is_ready(event) {
+            if !self.placed[row] && self.is_ready(event) {
                 return Some(event);
             }
         }
