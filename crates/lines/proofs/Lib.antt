@@ -1,5 +1,5 @@
 pub mod Ends
-pub mod FromFn
+pub mod FewWaits
 pub mod Granting
 pub mod Kept
 pub mod Loads

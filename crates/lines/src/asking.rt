@@ -11,7 +11,6 @@ use crate::sheets::{MOST_ROWS, Stages};
 use controls::cards::Cards;
 use controls::control::Control;
 use controls::events::Wait;
-use std::array;
 
 // What each event of a part waits for, as a control told it; the waits stand by the rows of the sheet.
 #[derive(Clone, Copy)]
@@ -30,19 +29,11 @@ fn told_by<C: Control>(control: &C, cards: Cards<'_>) -> [[Option<Wait>; 3]; MOS
     let stages = Stages {
         count: cards.stages,
     };
-    array::from_fn(
-        |row| -> [Option<Wait>; 3]
-            ensures told { (e : EventType) → InLine stages.count e → row_of stages.count e ≡ row
-                → somes result ≡ (C.meaning control.entry.now).waits cards.entry.stages cards.entry.counts.now e }
-            ensures few { length result ≤ 3 }
-        {
-            if row < stages.rows() {
-                control.waits(cards, stages.event_at(row))
-            } else {
-                [None; 3]
-            }
-        },
-    )
+    let mut told = [[None; 3]; MOST_ROWS];
+    for row in 0..stages.rows() {
+        told[row] = control.waits(cards, stages.event_at(row));
+    }
+    told
 }
 
 // Asks the control for the waits of every event. It is asked here, and not again.
