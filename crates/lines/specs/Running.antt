@@ -37,15 +37,15 @@ pub record Running
 
 -- The waits of a plan.
 abbrev pub plan_waits : Plan → Event → List Wait
-plan_waits plan = table_waits plan.table
+plan_waits plan = table_waits plan.table.now
 
 -- The first k events of a plan.
 abbrev pub placed : Plan → ℕ → Event → Bool
-placed plan k = among plan.table.stages.count (take k plan.events.items)
+placed plan k = among plan.table.now.stages.count (take k plan.events.items)
 
 -- The same of a plan and the booked parts.
 abbrev pub Reached : Plan → List Booking → List Station → List ℕ → ℕ → (Event → Bool) → List ℕ → List Station → Type 0
-Reached plan book begun first m p sheet ms = Running plan.table.stages.count (plan_waits plan) begun (calls book) first m p sheet ms
+Reached plan book begun first m p sheet ms = Running plan.table.now.stages.count (plan_waits plan) begun (calls book) first m p sheet ms
 
 -- Whatever the run began with, if it had come to m and p with the sheet and the row as they were, it has come to m' and q with
 -- them as they are.

@@ -10,16 +10,16 @@ use controls::events::Event;
 // How every part of a run is worked out: what each event waits for, and the events in an order in which each comes after
 // those of its own part that it needs.
 #[derive(Drop)]
-pub(crate) struct Plan {
-    pub(crate) table: WaitTable,
+pub(crate) struct Plan<'t> {
+    pub(crate) table: &'t WaitTable,
     pub(crate) events: ArrayVec<Event, MOST_ROWS>,
-    ghost order: { ∥ InOrder table.stages.count (asked table.stages.count table.told) events.items ∥₁ },
+    ghost order: { ∥ InOrder table.now.stages.count (asked table.now.stages.count table.now.told) events.items ∥₁ },
 }
 
-impl Plan {
+impl<'t> Plan<'t> {
     // The plan by these waits.
-    pub(crate) fn by(table: WaitTable) -> Plan
-        ensures { result.table ≡ table }
+    pub(crate) fn by(table: &'t WaitTable) -> Plan<'t>
+        ensures { result.table.now ≡ table.now }
     {
         Plan {
             table,

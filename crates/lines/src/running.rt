@@ -47,11 +47,11 @@ impl Stages {
 }
 
 // Two `&mut` and a width: a struct of row and sheet would say in each contract that it holds the same ones still.
-impl Plan {
+impl Plan<'_> {
     // Works out an event of the plan for the part.
     fn place_event<R: Row>(&self, row: &mut R, sheet: &mut [u32], part: &Part<'_>, event: Event)
-        requires in_line { InLine self.now.table.stages.count event }
-        requires wide { room self.now.table.stages.count (length (bookings part.now)) ≤ length sheet.old }
+        requires in_line { InLine self.now.table.now.stages.count event }
+        requires wide { room self.now.table.now.stages.count (length (bookings part.now)) ≤ length sheet.old }
         ensures { (k : ℕ) → k < length self.now.events.items → slice_index_or self.now.events.items k Delivery ≡ event
             → Advances self.now (bookings part.now) part.now.index (placed self.now k) sheet.old (R.meanings row.old)
             part.now.index (placed self.now (k + 1)) sheet.new (R.meanings row.new) }
@@ -74,7 +74,7 @@ impl Plan {
 
     // Works out the part.
     fn run_part<R: Row>(&self, row: &mut R, sheet: &mut [u32], part: &Part<'_>)
-        requires { room self.now.table.stages.count (length (bookings part.now)) ≤ length sheet.old }
+        requires { room self.now.table.now.stages.count (length (bookings part.now)) ≤ length sheet.old }
         ensures { Advances self.now (bookings part.now) part.now.index (placed self.now 0) sheet.old (R.meanings row.old)
             (part.now.index + 1) (placed self.now 0) sheet.new (R.meanings row.new) }
     {
@@ -85,14 +85,14 @@ impl Plan {
 
     // Works out all booked parts, from fresh stations.
     pub(crate) fn evaluate<R: Row>(&self, row: &mut R, sheet: &mut [u32], book: &Book)
-        requires wide { room self.now.table.stages.count (length book.now.parts.items) ≤ length sheet.old }
-        requires stages_in_bounds { self.now.table.stages.count ≤ length (R.meanings row.old) }
-        ensures times { Times self.now.table.stages.count (plan_waits self.now) (fresh_rules (R.meanings row.old))
-            (calls book.now.parts.items) (rows self.now.table.stages.count (length book.now.parts.items) sheet.new) }
-        ensures others { drop (room self.now.table.stages.count (length book.now.parts.items)) sheet.new
-            ≡ drop (room self.now.table.stages.count (length book.now.parts.items)) sheet.old }
-        ensures row { RowLoadedWith self.now.table.stages.count
-            (λ i. rows self.now.table.stages.count (length book.now.parts.items) sheet.new (Release i))
+        requires wide { room self.now.table.now.stages.count (length book.now.parts.items) ≤ length sheet.old }
+        requires stages_in_bounds { self.now.table.now.stages.count ≤ length (R.meanings row.old) }
+        ensures times { Times self.now.table.now.stages.count (plan_waits self.now) (fresh_rules (R.meanings row.old))
+            (calls book.now.parts.items) (rows self.now.table.now.stages.count (length book.now.parts.items) sheet.new) }
+        ensures others { drop (room self.now.table.now.stages.count (length book.now.parts.items)) sheet.new
+            ≡ drop (room self.now.table.now.stages.count (length book.now.parts.items)) sheet.old }
+        ensures row { RowLoadedWith self.now.table.now.stages.count
+            (λ i. rows self.now.table.now.stages.count (length book.now.parts.items) sheet.new (Release i))
             (R.meanings row.old) (R.meanings row.new) }
     {
         row.fresh();

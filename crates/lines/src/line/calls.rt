@@ -88,7 +88,8 @@ impl<R: Row, C: Control> Line<R, C> {
             counts: board.counts(),
         };
         self.admit(book, cards, sheet)?;
-        let plan = Plan::by(ask(&self.control, cards));
+        let table = ask(&self.control, cards);
+        let plan = Plan::by(&table);
         plan.evaluate(&mut self.row, sheet, book);
         let parts = book.parts().len();
         let start = 3 * self.stages as usize * parts;

@@ -15,10 +15,10 @@ returns g c =
     let plan = c.by-plan.result in
     let sz : length (vec_items book.parts) ≡ vec_len book.parts = search rules in
     let K = c.counts.result.now in
-    let is : plan.table.stages.count ≡ N = ap (λ (t : WaitTable). t.stages.count) c.by-plan.ensures ∙ c.ask.ensures.stages in
-    let tells : Tells N (C.waits N K) plan.table.told = subst (λ (t : WaitTable). Tells N (C.waits N K) t.told) (sym c.by-plan.ensures) c.ask.ensures.tells in
+    let is : plan.table.now.stages.count ≡ N = ap (λ (t : WaitTable). t.stages.count) c.by-plan.ensures ∙ c.ask-table.ensures.stages in
+    let tells : Tells N (C.waits N K) plan.table.now.told = subst (λ (t : WaitTable). Tells N (C.waits N K) t.told) (sym c.by-plan.ensures) c.ask-table.ensures.tells in
     let end = run_ends C (g.met.C.Control.lawful line.control) N (g.R.Row.meanings line.row) (g.met.R.Row.lawful line.row) book.parts.items (book_rises book sz)
-    K c.args.sheet.now c.in_ok-admit.ensures plan.table.stages.count is plan.table.told
+    K c.args.sheet.now c.in_ok-admit.ensures plan.table.now.stages.count is plan.table.now.told
     tells c.evaluate.new.sheet (g.R.Row.meanings c.evaluate.new.row) c.evaluate.auto.sheet
     (record { times = c.evaluate.ensures.times; others = c.evaluate.ensures.others; row = c.evaluate.ensures.row }) c.missed.result _
     (delivery_row N (length book.parts.items) c.evaluate.new.sheet (length c.parts-parts.result.now) (ap length c.parts-parts.ensures)) c.missed.ensures.count c.missed.ensures.first in

@@ -10,4 +10,4 @@ loop-index-init g c =
     let old = g.R.Row.meanings c.args.row.now in
     let parts = c.args.book.now.parts.items in
     subst (λ ms. Reached plan parts (map freshened old) c.args.sheet.now 0 (placed plan 0) c.args.sheet.now ms) (sym (search rules))
-    (at_start plan.table.stages.count (plan_waits plan) parts c.args.sheet.now old (g.met.R.Row.lawful c.args.row.now) c.requires.stages_in_bounds c.requires.wide)
+    (at_start plan.table.now.stages.count (plan_waits plan) parts c.args.sheet.now old (g.met.R.Row.lawful c.args.row.now) c.requires.stages_in_bounds c.requires.wide)

@@ -8,7 +8,7 @@ use Rattle.lines.proofs.plans.Plan.run_part.Goals as goal
 pub place_event-requires-clause-in_line : goal.place_event-requires-clause-in_line
 place_event-requires-clause-in_line g c =
     let plan = c.args.self.now in
-    let N = plan.table.stages.count in
+    let N = plan.table.now.stages.count in
     event_in N (plan_waits plan) plan.events.items (order_of N (plan_waits plan) plan.events.items plan.order) _ c.as_slice-event-items.ensures.value _ _ (search rules)
 
 pub loop-event-preserved : goal.loop-event-preserved
@@ -21,7 +21,7 @@ loop-event-preserved g c = λ begun first run.
 pub returns : goal.returns
 returns g c = λ begun first run.
     let plan = c.args.self.now in
-    let N = plan.table.stages.count in
+    let N = plan.table.now.stages.count in
     let sz : length plan.events.items ≤ c.loop-event.event-index = search rules in
     part_over N (plan_waits plan) plan.events.items (order_of N (plan_waits plan) plan.events.items plan.order) begun _ first c.args.part.now.index c.loop-event.sheet
     (g.R.Row.meanings c.loop-event.row) c.loop-event.event-index sz (c.loop-event.invariant begun first run)
