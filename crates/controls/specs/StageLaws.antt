@@ -1,8 +1,8 @@
 -- The laws of a control that is given by its waits of each stage.
-use Rattle.std.specs.Prelude.{◌≡◌, ℕ, zero, suc, ◌+◌, ◌<◌, ◌≤◌, Bool, true, false, cond, leb, List, [], ◌∷◌, ◌++◌, length, nat_le, refl}
+use Rattle.std.specs.Prelude.{◌≡◌, ℕ, zero, suc, ◌+◌, ◌<◌, ◌≤◌, Bool, true, false, cond, leb, List, [], ◌∷◌, ◌++◌, length, ◌≢◌, nat_le, refl}
 use Rattle.std.specs.List.{AllByRecursion, AllZip, list_all, range_with_len}
 use Rattle.std.proofs.Common.{ap, ◌∙◌, inl, inr, arith, length-append}
-use Rattle.std.proofs.lemmas.Bool.{leb-true, le-leb, lt-ltb, le-ltb, and_parts, and_from, cases_eq, cases_lt}
+use Rattle.std.proofs.lemmas.Bool.{leb-true, le-leb, lt-ltb, le-ltb, and_parts, and_from, cases_eq, cases_lt, both_ways}
 use Rattle.stations.specs.declared.numbers.StageNo.{StageNo}
 use Rattle.stations.specs.Lists.{at}
 use Rattle.controls.specs.declared.events.Event.{Event}
@@ -11,7 +11,7 @@ use Rattle.controls.specs.declared.events.Wait.{Wait}
 use Rattle.controls.specs.declared.events.Wait.TheVariants.{Call, After}
 use Rattle.controls.specs.Events.{IsStage, InLine, Waits, SourceIn, SameSource, LagUpTo}
 use Rattle.controls.specs.Control.{Meaning, Rise, StepFits, LawfulControl}
-use Rattle.controls.specs.Stages.{stage, is_stage, at_stage, before, staged, next_release, carded}
+use Rattle.controls.specs.Stages.{stage, is_stage, at_stage, before, staged, next_release, every, carded}
 
 pub rise_at : (K L : List ℕ) → Rise K L → (n : ℕ) → at K n ≤ at L n
 rise_at K L h zero = omega arith
@@ -33,6 +33,18 @@ each_every test a zero h = refl
 each_every test a (suc n) h =
     and_from (test a) (list_all test (range_with_len (a + 1) n)) (h a (omega arith) (omega arith))
     (each_every test (a + 1) n (λ i l m. h i (omega arith) (omega arith)))
+
+untrue : (b : Bool) → (b ≢ true) → false ≡ b
+untrue true h = absurd (h refl)
+untrue false h = refl
+
+-- A search that goes from stage to stage finds one that fails, or goes on.
+pub every_not : (test : ℕ → Bool) (n i : ℕ) → i < n → test (i + 1) ≡ false → false ≡ every test n
+every_not test n i a h = untrue (every test n) (λ t. both_ways (test (i + 1)) h (every_each test 1 n t (i + 1) (omega arith) (omega arith)))
+
+pub every_more : (test : ℕ → Bool) (i : ℕ) → every test i ≡ true → test (i + 1) ≡ true → every test (i + 1) ≡ true
+every_more test i h k = each_every test 1 (i + 1) (λ j a b.
+    elim (cases_eq j (i + 1)) [ inl e ↦ ap test e ∙ k | inr d ↦ every_each test 1 i h j a (omega arith) ])
 
 pub carded_at : (first : ℕ) (K : List ℕ) (n : ℕ) → carded first K n ≡ true → (i : ℕ) → 1 ≤ i → i ≤ n → 1 ≤ at K (first + i)
 carded_at first K n h i a b = leb-true 1 (at K (first + i)) (every_each (λ i. leb 1 (at K (first + i))) 1 n h i a (omega arith))
