@@ -31,8 +31,11 @@ impl Places {
         ensures taken { self.new.free.items
             ≡ cut (result + turn) ∷ take (array_vec_len self.old.free - 1) self.old.free.items }
     {
-        let start = earliest.max(self.free.pop().unwrap());
-        self.free.insert(0, later_by(start, turn));
+        let times = self.free.as_mut_slice();
+        // The last time comes to the front, where the new one takes its place.
+        times.rotate_right(1);
+        let start = earliest.max(times[0]);
+        times[0] = later_by(start, turn);
         start
     }
 
@@ -40,6 +43,8 @@ impl Places {
     pub fn clear(&mut self)
         ensures { self.new.free.items ≡ replicate (array_vec_len self.old.free) 0 }
     {
-        self.free.as_mut_slice().fill(0);
+        for time in self.free.as_mut_slice() {
+            *time = 0;
+        }
     }
 }
