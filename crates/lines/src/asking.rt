@@ -29,6 +29,7 @@ fn told_by<C: Control>(control: &C, cards: Cards<'_>) -> [[Option<Wait>; 3]; MOS
     let stages = Stages {
         count: cards.stages,
     };
+    // A loop: by `array::from_fn`, also asked for these rows alone, a run of a short line took a fifth more instructions.
     let mut told = [[None; 3]; MOST_ROWS];
     for row in 0..stages.rows() {
         told[row] = control.waits(cards, stages.event_at(row));
