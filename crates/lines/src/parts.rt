@@ -1,4 +1,4 @@
-ghost use Rattle.std.specs.Prelude.{◌≡◌, ◌+◌, ◌-◌, ◌*◌, ◌<◌, ◌≤◌, length, MatchOption};
+ghost use Rattle.std.specs.Prelude.{◌≡◌, ◌+◌, ◌-◌, ◌*◌, ◌^◌, ◌<◌, ◌≤◌, length, MatchOption};
 ghost use Rattle.stations.specs.Lists.{at};
 ghost use Rattle.lines.specs.Missed.{calls};
 ghost use Rattle.lines.specs.Sheet.{row_of, rows};
@@ -35,11 +35,19 @@ impl<'b> Part<'b> {
         })
     }
 
+    // The part's place in a row of the sheet.
+    pub(crate) fn in_row(&self, row: usize) -> usize
+        requires { row < 2 ^ 34 }
+        ensures { result ≡ row * length self.now.book.now.parts.items + self.now.index }
+    {
+        row * self.book.parts().len() + self.index
+    }
+
     // The place on the sheet of an event of the part.
     pub(crate) fn place(&self, stages: Stages, event: Event) -> usize
         ensures { result ≡ row_of stages.count event * length self.now.book.now.parts.items + self.now.index }
     {
-        stages.row_of(event) * self.book.parts().len() + self.index
+        self.in_row(stages.row_of(event))
     }
 
     // The minute of an event of the part, as the sheet has it; 0 where it has none.

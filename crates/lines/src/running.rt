@@ -57,7 +57,8 @@ impl Plan<'_> {
             part.now.index (placed self.now (k + 1)) sheet.new (R.meanings row.new) }
     {
         let stages = self.table.stages;
-        let place = part.place(stages, event);
+        let at = stages.row_of(event);
+        let place = part.in_row(at);
         match event {
             Event::Completion(stage) => {
                 let released = part.place(stages, Event::Release(stage));
@@ -67,7 +68,7 @@ impl Plan<'_> {
                 }
             }
             _ => {
-                sheet[place] = stages.latest_wait(part, sheet, self.table.waits_of(event));
+                sheet[place] = stages.latest_wait(part, sheet, self.table.waits_in(at));
             }
         }
     }

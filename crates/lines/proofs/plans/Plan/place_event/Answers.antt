@@ -1,4 +1,4 @@
-use Rattle.std.proofs.Common.{◌≡◌, ◌+◌, ◌≤◌, ℕ, Err, map, length, vec_items, vec_len, get_or, sym, refl, ap, ◌∙◌, subst, arith, rules}
+use Rattle.std.proofs.Common.{◌≡◌, ◌+◌, ◌*◌, ◌≤◌, ℕ, [], Err, map, length, vec_items, vec_len, get_or, sym, refl, ap, ◌∙◌, subst, arith, rules}
 use Rattle.rows.specs.RowLoad.{RowLoaded}
 use Rattle.controls.specs.declared.events.Event.TheVariants.{Release}
 use Rattle.controls.specs.Events.{InLine, Waits}
@@ -18,13 +18,13 @@ pub bounds-sheet-place-in_default : goal.bounds-sheet-place-in_default
 bounds-sheet-place-in_default g c =
     let part = c.args.part.now in
     let k = in_room c.args.self.now.table.now.stages.count (length part.book.now.parts.items) part.index c.args.event c.requires.in_line part.booked in
-    omega (arith, k, c.place-place.ensures, c.requires.wide)
+    omega (arith, k, c.in_row-place.ensures, ap (λ x. x * length part.book.now.parts.items + part.index) c.row_of-at.ensures.row, c.requires.wide)
 
 pub bounds-sheet-place : goal.bounds-sheet-place
 bounds-sheet-place g c =
     let part = c.args.part.now in
     let k = in_room c.args.self.now.table.now.stages.count (length part.book.now.parts.items) part.index c.args.event c.requires.in_line part.booked in
-    omega (arith, k, c.place-place.ensures, c.requires.wide)
+    omega (arith, k, c.in_row-place.ensures, ap (λ x. x * length part.book.now.parts.items + part.index) c.row_of-at.ensures.row, c.requires.wide)
 
 pub returns-in-Ok : goal.returns-in-Ok
 returns-in-Ok g c = λ k h is begun first run.
@@ -35,10 +35,10 @@ returns-in-Ok g c = λ k h is begun first run.
     let i = c.in-Completion.stage in
     let sz : length (vec_items c.args.part.now.book.now.parts) ≡ vec_len c.args.part.now.book.now.parts = search rules in
     let i_in = subst (InLine N) c.in-Completion.is c.requires.in_line in
-    rw c.place-place.ensures
+    rw c.in_row-place.ensures
     (placed_completion N (plan_waits plan) plan.events.items (order_of N (plan_waits plan) plan.events.items plan.order) (inside_of N plan.table.now.told plan.table.now.orderly)
     book.parts.items c.args.sheet.now part.index k part.booked c.requires.wide h begun first (g.R.Row.meanings c.args.row.now) c.args.event
-    (sym is) (row_of N c.args.event) refl run
+    (sym is) c.row_of-at.result c.row_of-at.ensures.row run
     (steps_of N plan.table.now.told plan.table.now.orderly) (book_rises book sz) i c.in-Completion.is (row_of N (Release i)) refl
     c.in-Ok.departure (g.R.Row.meanings c.load.new.self) (row_loads _ _ i _ _ i_in.0 (rw (← c.place-released.ensures) c.in-Ok.ensures)))
 
@@ -55,7 +55,7 @@ returns-in_default-load g c = λ k h is begun first run.
     let le : i.0 ≤ length ms = omega (arith, i_in.1, run.stations, run.enough) in
     let ready = granted N (plan_waits plan) plan.events.items (order_of N (plan_waits plan) plan.events.items plan.order) (inside_of N plan.table.now.told plan.table.now.orderly)
     book.parts.items c.args.sheet.now part.index k part.booked c.requires.wide h begun first ms c.args.event
-    (sym is) (row_of N c.args.event) refl run
+    (sym is) c.row_of-at.result c.row_of-at.ensures.row run
     (steps_of N plan.table.now.told plan.table.now.orderly) (book_rises book sz) i c.in-Completion.is (row_of N (Release i)) refl in
     absurd (never_refused ms _ i _ c.in_default-load.field-0 i_in.0 le ready.0 ready.1
     (subst (λ (p : ℕ). RowLoaded ms i (get_or c.args.sheet.now p 0) (Err c.in_default-load.field-0) (g.R.Row.meanings c.load.new.self))
@@ -68,8 +68,8 @@ returns-in_default g c = λ k h is begun first run.
     let part = c.args.part.now in
     let w : Waits c.args.event = search rules in
     let parts = c.args.part.now.book.now.parts.items in
-    rw c.place-place.ensures
+    rw c.in_row-place.ensures
     (placed_waits N (plan_waits plan) plan.events.items (order_of N (plan_waits plan) plan.events.items plan.order) (inside_of N plan.table.now.told plan.table.now.orderly)
     parts c.args.sheet.now part.index k part.booked c.requires.wide h begun first (g.R.Row.meanings c.args.row.now) c.args.event
-    (sym is) (row_of N c.args.event) refl run c.latest_wait.result w
-    (c.latest_wait.ensures ∙ ap (λ os. latest (map (wait_end (calls parts) (rows N (length parts) c.args.sheet.now) (part.index + 1)) (somes os))) c.waits_of.ensures))
+    (sym is) c.row_of-at.result c.row_of-at.ensures.row run c.latest_wait.result w
+    (c.latest_wait.ensures ∙ ap (λ os. latest (map (wait_end (calls parts) (rows N (length parts) c.args.sheet.now) (part.index + 1)) (somes os))) (c.waits_in.ensures ∙ ap (λ r. get_or plan.table.now.told r []) c.row_of-at.ensures.row)))
