@@ -19,18 +19,13 @@ pub(crate) struct Placing<'t> {
 }
 
 impl WaitTable {
-    // The waits in a row.
-    pub(crate) fn waits_in(&self, row: usize) -> &[Option<Wait>]
-        ensures { result.now ≡ slice_index_or self.now.told row [] }
-    {
-        self.told.get(row).map_or(&[], |waits| waits.as_slice())
-    }
-
     // The waits of an event.
     pub(crate) fn waits_of(&self, event: Event) -> &[Option<Wait>]
         ensures { result.now ≡ slice_index_or self.now.told (row_of self.now.stages.count event) [] }
     {
-        self.waits_in(self.stages.row_of(event))
+        self.told
+            .get(self.stages.row_of(event))
+            .map_or(&[], |waits| waits.as_slice())
     }
 
     // The events of a part, each once and after those of its own part that it needs.

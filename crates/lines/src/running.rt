@@ -33,7 +33,7 @@ impl Stages {
     }
 
     // The latest minute at which one of the waits of the part ends.
-    fn latest_wait(self, part: &Part<'_>, sheet: &[u32], waits: &[Option<Wait>]) -> u32
+    fn latest_wait(self, part: &Part<'_>, sheet: &[u32], waits: &[Option<Wait>; 3]) -> u32
         ensures { result ≡ latest (map
             (wait_end (calls (bookings part.now)) (rows self.count (length (bookings part.now)) sheet.now) (part.now.index + 1))
             (somes waits.now)) }
@@ -56,7 +56,8 @@ impl Plan<'_> {
             → Advances self.now (bookings part.now) part.now.index (placed self.now k) sheet.old (R.meanings row.old)
             part.now.index (placed self.now (k + 1)) sheet.new (R.meanings row.new) }
     {
-        let stages = self.table.stages;
+        let table = self.table;
+        let stages = table.stages;
         let at = stages.row_of(event);
         let place = part.in_row(at);
         match event {
@@ -68,7 +69,8 @@ impl Plan<'_> {
                 }
             }
             _ => {
-                sheet[place] = stages.latest_wait(part, sheet, self.table.waits_in(at));
+                let waits = &table.told[at];
+                sheet[place] = stages.latest_wait(part, sheet, waits);
             }
         }
     }

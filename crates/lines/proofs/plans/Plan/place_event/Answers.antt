@@ -72,4 +72,4 @@ returns-in_default g c = λ k h is begun first run.
     (placed_waits N (plan_waits plan) plan.events.items (order_of N (plan_waits plan) plan.events.items plan.order) (inside_of N plan.table.now.told plan.table.now.orderly)
     parts c.args.sheet.now part.index k part.booked c.requires.wide h begun first (g.R.Row.meanings c.args.row.now) c.args.event
     (sym is) c.row_of-at.result c.row_of-at.ensures.row run c.latest_wait.result w
-    (c.latest_wait.ensures ∙ ap (λ os. latest (map (wait_end (calls parts) (rows N (length parts) c.args.sheet.now) (part.index + 1)) (somes os))) (c.waits_in.ensures ∙ ap (λ r. get_or plan.table.now.told r []) c.row_of-at.ensures.row)))
+    (c.latest_wait.ensures ∙ ap (λ os. latest (map (wait_end (calls parts) (rows N (length parts) c.args.sheet.now) (part.index + 1)) (somes os))) (ap (λ r. get_or plan.table.now.told r []) c.row_of-at.ensures.row)))
