@@ -27,6 +27,7 @@ returns-then-count-eq0 c ns x fit e =
     ] in
     no_counts read.0 read.1 c.if-count-eq0.true ns x fit e
 
+-- the counts are taken by what they are: a count written back where it stood changes nothing
 pub returns : goal.returns
 returns c =
     let counted = c.loop-value.invariant.counted in
@@ -37,4 +38,4 @@ returns c =
       | then-loop-value-test+then-not-accept w ↦
           rw (w.cursor-is, w.values-is, w.if-not-accept.ensures.0, counted, set-get_or) (c.loop-value.invariant.listing, inr w.if-not-accept.ensures.1)
     ] in
-    counts_read read.0 read.1 (omega arith)
+    search (rules, set-get_or, counts_read read.0 read.1 (omega arith))
